@@ -6,3 +6,4 @@ pub mod Sound
 pub mod Text
 pub mod Typing
 pub mod Value
+pub mod Weight

@@ -18,6 +18,7 @@ mod tests;
 mod texts;
 pub mod typing;
 mod values;
+mod weights;
 
 pub use codes::Code;
 pub use copies::Copying;
@@ -31,3 +32,4 @@ pub use stmts::{Items, Stmt};
 pub use texts::{Name, SqlBytes, SqlText};
 pub use typing::type_of;
 pub use values::{Ty, Value};
+pub use weights::{value_weight, weight};

@@ -1,5 +1,5 @@
 //! Names, texts and bytes.
-ghost use Rattle.std.specs.Prelude.{◌≡◌, ◌++◌, length, IfOk, MatchOption};
+ghost use Rattle.std.specs.Prelude.{◌≡◌, ◌<◌, ◌^◌, ◌++◌, length, IfOk, MatchOption};
 ghost use Rattle.sql_base.specs.Text as spec;
 
 use crate::copies::Copying;
@@ -153,7 +153,8 @@ impl SqlText {
 
     /// The number of bytes.
     pub fn len(&self) -> usize
-        ensures { result ≡ length self.now }
+        ensures bytes { result ≡ length self.now }
+        ensures small { result < 2 ^ 63 }
     {
         self.text.len()
     }
