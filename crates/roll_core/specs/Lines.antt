@@ -1,7 +1,7 @@
 -- The lines that tell a history.
-use Rattle.std.specs.Prelude.{ℕ, List, [], ◌∷◌, ◌++◌, ◌==◌, Option, Some, None, codes, decimal, length, map, slice_index_or, unwrap_or, if◌then◌else◌, Bool, true, false}
+use Rattle.std.specs.Prelude.{ℕ, List, [], ◌∷◌, ◌++◌, ◌==◌, Option, Some, None, codes, decimal, length, slice_index_or, unwrap_or, if◌then◌else◌, Bool, true, false}
 use Rattle.std.specs.Fmt.{signed_decimal}
-use Rattle.std.specs.List.{flat_map, join_with_byte}
+use Rattle.std.specs.List.{flat_map}
 use Rattle.std.specs.Option.{option_map_or}
 use Rattle.sql_base.specs.declared.codes.Code.{Code}
 use Rattle.sql_base.specs.declared.codes.Code.TheVariants.{C22003, C22012, C22P02, C23502, C23505, C23514, C0A000, C42601, C42701, C42703, C42804, C42P01, C53200, C54000}
@@ -44,9 +44,14 @@ value_text (Text text) = flat_map escaped_byte text
 value_text (Truth true) = codes "true"
 value_text (Truth false) = codes "false"
 
--- A row of a reply: two blanks, and its values with a bar between them.
+-- The values of a row, with a bar between them.
+abbrev pub values_text : List Value → List ℕ
+values_text [] = []
+values_text (value ∷ values) = value_text value ++ flat_map (λ next. codes "|" ++ value_text next) values
+
+-- A row of a reply: two blanks, its values, and a newline.
 abbrev pub row_text : List Value → List ℕ
-row_text row = codes "  " ++ (join_with_byte 124 (map value_text row) ++ codes "\n")
+row_text row = codes "  " ++ (values_text row ++ codes "\n")
 
 -- What stands behind the number and the actor. A refused statement names what there is to name, and the row's key where it is known.
 abbrev pub reply_text : Reply → List ℕ
@@ -55,9 +60,13 @@ reply_text (Select rows) = codes "SELECT " ++ (decimal (length rows) ++ (codes "
 reply_text (Error code name key) =
     codes "ERROR " ++ (code_text code ++ (codes " " ++ (unwrap_or name (codes "-") ++ (codes " " ++ (option_map_or signed_decimal key (codes "-") ++ codes "\n")))))
 
--- The line of an entry and those of its rows. The name of actor i is the i-th of these names.
+-- The line of a reply with its number and the name of its actor, and the lines of its rows.
+abbrev pub numbered : ℕ → List ℕ → Reply → List ℕ
+numbered number name reply = decimal number ++ (codes " " ++ (name ++ (codes " " ++ reply_text reply)))
+
+-- The line of an entry and those of its rows. The name of actor i is the i-th of these names, from 0.
 abbrev pub line_of : List (List ℕ) → Entry → List ℕ
-line_of names entry = decimal entry.number ++ (codes " " ++ (slice_index_or names entry.actor [] ++ (codes " " ++ reply_text entry.reply)))
+line_of names entry = numbered entry.number (slice_index_or names entry.actor []) entry.reply
 
 -- The lines of a history, in its order.
 abbrev pub lines_of : List (List ℕ) → List Entry → List ℕ
