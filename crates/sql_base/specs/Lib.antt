@@ -2,6 +2,8 @@ pub mod Cast
 pub mod Eval
 pub mod Outcome
 pub mod Shape
+pub mod Small
+pub mod SmallSteps
 pub mod Sound
 pub mod Text
 pub mod Typing

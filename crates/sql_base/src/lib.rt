@@ -12,6 +12,7 @@ mod lists;
 mod memory;
 pub mod operate;
 mod shapes;
+pub mod small;
 mod stmts;
 #[cfg(test)]
 mod tests;
