@@ -1,5 +1,5 @@
 -- What seats know, and how it changes.
-use Rattle.std.specs.Prelude.{ℕ, List, [], ◌∷◌, ◌++◌, length, Option, Some, None}
+use Rattle.std.specs.Prelude.{ℕ, List, [], ◌∷◌, ◌++◌, length, Some, None}
 use Rattle.latch.specs.declared.view.View.{View}
 use Rattle.latch.specs.declared.view.Stage.{Stage}
 use Rattle.latch.specs.declared.view.Stage.TheVariants.{Idle, Waiting, Turn, Ended}

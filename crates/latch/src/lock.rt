@@ -1,4 +1,4 @@
-//! The lock itself.
+//! The lock and its calls.
 ghost use Rattle.std.specs.Prelude.{◌≡◌, ◌<◌, ◌++◌, length, IfOk, IfErr};
 ghost use Rattle.latch.specs.Lists.{Adds, Begins, longer, total};
 ghost use Rattle.latch.specs.Seats.{AreDealt, AreFree, BeginsEach, HasEntered, IsFree, IsSameSeat, IsSeatOf, given, places, seen, width};
@@ -14,6 +14,8 @@ use std::snapshot::Snapshot;
 use std::sync::Wait;
 
 /// A value that threads take in turn.
+///
+/// Contracts see it as which latch it is (`table`), the number of its seats (`seats`), and the value that it began with (`first`).
 pub struct Latch<T: Counted> {
     pub(crate) table: Table<Option<T>, View<T::Base, T::Item>, Start<T>, Turns<T>, Global>,
 }
@@ -29,14 +31,17 @@ impl<T: Counted> Model for Latch<T> {
     ghost invariant = { λ l. (l.table.shared.table_id.words ≡ 3) × (l.table.shared.table_id.slots ≡ 1) × (0 < l.table.shared.key.seats) };
 }
 
-/// What `Latch::new` gives: the latch and its seats, each with the place that it has in the list.
+/// What `Latch::new` gives.
 pub struct Opened<T: Counted> {
     pub latch: Latch<T>,
+    /// The seats, in the order of their places, from 0.
     pub seats: Vec<Seat<T>>,
 }
 
 impl<T: Counted> Latch<T> {
-    /// A latch over a value, and its seats. Each has the place that it has in the list, and has seen the value's list.
+    /// A latch over a value, and as many seats. Each seat stands for the place that it has in the list, from 0, has seen the value's list, and hasn't entered.
+    ///
+    /// An Err gives the value back, and is want of memory.
     pub fn new(alloc: Global, value: T, seats: u32) -> Result<Opened<T>, T>
         requires { 0 < seats }
         ensures latch { IfOk result (λ r. (r.latch.first ≡ value) × (r.latch.seats ≡ seats)) }
@@ -67,7 +72,9 @@ impl<T: Counted> Latch<T> {
         }
     }
 
-    /// Waits for the seat's turn and takes the value.
+    /// Waits for the seat's turn, asleep, and gives the value. It has the base of the value that the latch began with. Its list begins with what the seat has seen, and no entry past that carries a place of the seat.
+    ///
+    /// The seat must be one of this latch, and not have entered.
     pub fn enter<R: Wait>(&self, rt: &R, seat: &mut Seat<T>) -> T
         requires own { IsSeatOf T.base self.now seat.old }
         requires free { IsFree seat.old }
@@ -84,13 +91,16 @@ impl<T: Counted> Latch<T> {
             if serving == number {
                 return self.take_out(seat);
             }
+            // It sleeps while the low half of the word is this.
             let low = (serving & 0xffff_ffff) as u32;
             self.table.shared.park(rt, SERVING, low);
         }
         unreachable!()
     }
 
-    /// Puts the value back, counts its new entries and passes the turn on.
+    /// Puts a value back and passes the turn on. The seat then has seen the value's list.
+    ///
+    /// The seat must have entered. The value must have the base of the value that the latch began with, and its list must begin with the list that `enter` gave; each entry past that carries a place of the seat, or none.
     pub fn leave(&self, seat: &mut Seat<T>, value: T)
         requires own { IsSeatOf T.base self.now seat.old }
         requires entered { HasEntered seat.old }
@@ -108,7 +118,9 @@ impl<T: Counted> Latch<T> {
         self.pass(seat);
     }
 
-    /// The kept seat stands for the places of both, and has seen the longer of their lists.
+    /// Makes one seat of two. The kept one then stands for the places of both, and has seen the longer of their two lists. It begins with the shorter, and no entry past that carries a place of the seat that had the shorter.
+    ///
+    /// Both must be seats of this latch, and neither may have entered.
     pub fn join(&self, kept: &mut Seat<T>, seat: Seat<T>)
         requires own { IsSeatOf T.base self.now kept.old × IsSeatOf T.base self.now seat }
         requires free { IsFree kept.old × IsFree seat }
@@ -123,7 +135,9 @@ impl<T: Counted> Latch<T> {
         self.recall(kept);
     }
 
-    /// The value, once one seat stands for all places.
+    /// Gives the value back. It has the base of the value that the latch began with. Its list begins with what the seat has seen, and no entry past that carries a place of the seat.
+    ///
+    /// The seat must be one of this latch, stand for all places, and not have entered.
     pub fn close(self, seat: Seat<T>) -> T
         requires own { IsSeatOf T.base self seat }
         requires free { IsFree seat }
@@ -141,7 +155,9 @@ impl<T: Counted> Latch<T> {
         }
     }
 
-    /// The value, given all seats.
+    /// Gives the value back, for all seats at once. It has the base of the value that the latch began with. For each of the seats its list begins with what the seat has seen, and no entry past that carries a place of the seat.
+    ///
+    /// They must be seats of this latch that stand for all places between them, and none may have entered.
     pub fn close_all(self, mut seats: Vec<Seat<T>>) -> T
         requires free { AreFree T.base self seats.items }
         requires whole { total width seats.items ≡ self.seats }

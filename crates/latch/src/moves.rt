@@ -25,12 +25,7 @@ impl<T: Counted> Latch<T> {
     }
 
     // Cuts the seat that has all places into one for each place.
-    pub(crate) fn deal(
-        &self,
-        mut seat: Seat<T>,
-        mut all: Vec<Seat<T>>,
-        seats: u32,
-    ) -> Vec<Seat<T>>
+    pub(crate) fn deal(&self, mut seat: Seat<T>, mut all: Vec<Seat<T>>, seats: u32) -> Vec<Seat<T>>
         requires whole { (seat.table_id ≡ self.now.table) × (seat.me ≡ (fresh (T.list self.now.first) (T.base self.now.first) (upward 0 seats), [])) }
         requires seats { (0 < seats) × (seats ≡ self.now.seats) }
         requires room { (vec_len all ≡ 0) × (all.items ≡ []) × (seats ≤ vec_capacity all) }

@@ -1,5 +1,5 @@
 -- Seats of one place, before and after a thread has used them.
-use Rattle.std.specs.Prelude.{◌≡◌, ℕ, List, [], ◌∷◌, length, Option}
+use Rattle.std.specs.Prelude.{◌≡◌, ℕ, List, [], ◌∷◌, Option}
 use Rattle.atomic_table.specs.declared.shared.Seat.{Seat}
 use Rattle.latch.specs.declared.view.View.{View}
 use Rattle.latch.specs.Origin.{Origin}

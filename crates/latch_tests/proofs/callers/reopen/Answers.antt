@@ -1,4 +1,4 @@
-use Rattle.std.proofs.Common.{ℕ, List, ◌∷◌, [], length, sym, ap, ◌∙◌, subst, arith}
+use Rattle.std.proofs.Common.{ℕ, List, length, ap, ◌∙◌, subst, arith}
 use Rattle.latch.specs.Lists.{Begins}
 use Rattle.latch.specs.Seats.{width}
 use Rattle.latch_tests.specs.declared.desk.Entry.{Entry}

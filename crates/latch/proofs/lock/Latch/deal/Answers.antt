@@ -1,7 +1,6 @@
-use Rattle.std.proofs.Common.{◌≡◌, ℕ, ◌+◌, ◌-◌, suc, length, refl, sym, ap, ◌∙◌, subst, arith, Option, length-append}
+use Rattle.std.proofs.Common.{◌≡◌, ℕ, ◌+◌, ◌-◌, suc, length, sym, ap, ◌∙◌, arith, Option, length-append}
 use Rattle.atomic_table.specs.Table.{Me}
 use Rattle.latch.specs.declared.view.View.{View}
-use Rattle.latch.specs.Lists.{upward}
 use Rattle.latch.specs.Origin.{Origin}
 use Rattle.latch.proofs.Ends.{cuts}
 use Rattle.latch.proofs.Lists.{length_upward}
