@@ -37,6 +37,7 @@ module _ {T B I : Type 0} where
   abbrev pub HasEntered : Seat (Option T) (View B I) → Type 0
   HasEntered s = (s.me.0.stage ≡ Turn) × (s.me.1 ≡ (0, None) ∷ [])
 
+  -- it is the same seat of the same latch
   abbrev pub IsSameToken : Seat (Option T) (View B I) → Seat (Option T) (View B I) → Type 0
   IsSameToken old new = (new.table_id ≡ old.table_id) × (new.id ≡ old.id)
 
