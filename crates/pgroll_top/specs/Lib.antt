@@ -1,0 +1,4 @@
+pub mod Input
+pub mod Report
+pub mod Work
+pub mod Top
