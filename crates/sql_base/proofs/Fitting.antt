@@ -8,8 +8,8 @@ use Rattle.sql_base.specs.declared.values.Value.{Value}
 use Rattle.sql_base.specs.declared.shapes.Column.{Column}
 use Rattle.sql_base.specs.Eval.{value_at}
 use Rattle.sql_base.specs.Typing.{column_type}
-use Rattle.sql_base.specs.Sound.{has_type, Suits}
-use Rattle.sql_base.specs.Shape.{fits_columns}
+use Rattle.sql_base.specs.Shape.{has_type, fits_columns}
+use Rattle.sql_base.specs.Laws.{Suits}
 
 position-cons : (p : Column → Bool) (c : Column) (cs : List Column) → position p (c ∷ cs) ≡ (if p c then Some 0 else option_map (λ i. i + 1) (position p cs))
 position-cons p c cs = grind (arith, common_steps)
