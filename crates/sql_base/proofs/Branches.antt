@@ -97,9 +97,9 @@ case_step (Ok a) (Ok ts) (Ok u) (Err e) gives values h more so_far = tt
 case_step (Ok a) (Ok ts) (Ok u) (Ok x) gives values h more so_far =
     elim (fits ty.Boolean a.0) as (λ b. Sound (if b then and_then (agreed so_far a.1) rest else Err Mismatch) (if is_truth true x then gives else values)) [
       | true ↦ elim (is_truth true x) as (λ b. Sound (and_then (agreed so_far a.1) rest) (if b then gives else values)) [
-          | true ↦ by_branch gives h
-          | false ↦ sound_next (agreed so_far a.1) rest values more
-        ]
+        | true ↦ by_branch gives h
+        | false ↦ sound_next (agreed so_far a.1) rest values more
+      ]
       | false ↦ sound_fault Mismatch (if is_truth true x then gives else values)
     ]
   where

@@ -1,5 +1,5 @@
 -- What functions and casts come to is of their types.
-use Rattle.std.proofs.Common.{◌≡◌, ℕ, List, [], ◌∷◌, Bool, true, false, Option, Some, None, Ok, Err, Result, if◌then◌else◌, refl, arith, map, ◌==◌, pos, length, ◌||◌}
+use Rattle.std.proofs.Common.{◌≡◌, ℕ, List, [], ◌∷◌, Bool, true, false, Option, Some, None, Ok, Err, Result, if◌then◌else◌, refl, arith, map, ◌==◌, pos, length}
 use Rattle.std.specs.Char.{to_ascii_lowercase}
 use Rattle.std.specs.Str.{chars}
 use Rattle.sql_base.specs.declared.values.Value.{Value}
@@ -13,7 +13,7 @@ use Rattle.sql_base.specs.declared.faults.TypeFault.{TypeFault}
 use Rattle.sql_base.specs.declared.faults.TypeFault.TheVariants.{Mismatch}
 use Rattle.sql_base.specs.Cast.{cast, called, nullif, read_number, read_digits, read_bigint, read_boolean, signed, with_sign, trimmed}
 use Rattle.sql_base.specs.Outcome.{and_then}
-use Rattle.sql_base.specs.Value.{Outcome, is_truth, accepts, value_cmp}
+use Rattle.sql_base.specs.Value.{Outcome, alike}
 use Rattle.sql_base.specs.Typing.{Typed, agreed, one_type, call_type, casts}
 use Rattle.sql_base.specs.Shape.{has_type}
 use Rattle.sql_base.specs.Laws.{Suits, Sound}
@@ -40,7 +40,7 @@ every_step (Ok t) (Ok v) (Ok ts) (Ok vs) h k = (h, k)
 
 sound_nullif : (a b : Option Ty) (v w : Value) → has_type a v ≡ true → Suits (agreed a b) (nullif v w)
 sound_nullif a b v w h =
-    elim (is_truth true (accepts false true false (value_cmp v w))) as (λ c. Suits (agreed a b) (if c then Null else v)) [
+    elim (alike v w) as (λ c. Suits (agreed a b) (if c then Null else v)) [
       | true ↦ agreed_left a b Null refl
       | false ↦ agreed_left a b v h
     ]

@@ -1,5 +1,5 @@
 -- In a row that fits, the value of a column has the column's type.
-use Rattle.std.proofs.Common.{◌≡◌, ℕ, ◌+◌, List, [], ◌∷◌, Bool, true, false, ◌&&◌, Option, Some, None, if◌then◌else◌, refl, arith}
+use Rattle.std.proofs.Common.{◌≡◌, suc, ◌≢◌, ap, length, ℕ, ◌+◌, List, [], ◌∷◌, Bool, true, false, ◌&&◌, Option, Some, None, if◌then◌else◌, refl, arith}
 use Rattle.std.specs.Prelude.{find, option_map}
 use Rattle.std.specs.List.{position}
 use Rattle.std.specs.Str.{bytes_eq}
@@ -33,3 +33,13 @@ fits_suits name (c ∷ cs) (v ∷ vs) h =
       | true ↦ parts.0
       | false ↦ rw (value-next v vs (position (λ d. bytes_eq d.name name) cs)) (fits_suits name cs vs parts.1)
     ])
+
+pub different_lengths : (cs : List Column) (vs : List Value) → length cs ≢ length vs → fits_columns cs vs ≡ false
+different_lengths [] [] h = absurd (h refl)
+different_lengths [] (v ∷ vs) h = refl
+different_lengths (c ∷ cs) [] h = refl
+different_lengths (c ∷ cs) (v ∷ vs) h = rw (different_lengths cs vs (λ e. h (ap suc e))) (and_false (has_type (Some c.ty) v))
+  where
+    and_false : (b : Bool) → (b && false) ≡ false
+    and_false true = refl
+    and_false false = refl

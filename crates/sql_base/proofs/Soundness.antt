@@ -1,5 +1,5 @@
 -- What a typed expression comes to is of its type: by induction over the tree.
-use Rattle.std.proofs.Common.{◌≡◌, ℕ, List, [], ◌∷◌, true, Option, None, Ok, refl, subst, map}
+use Rattle.std.proofs.Common.{◌≡◌, List, [], ◌∷◌, true, Option, None, refl, subst, map}
 use Rattle.sql_base.specs.declared.values.Value.{Value}
 use Rattle.sql_base.specs.declared.values.Value.TheVariants.{Null, Int, Text, Bool as Truth}
 use Rattle.sql_base.specs.declared.values.Ty.{Ty}
@@ -17,7 +17,7 @@ use Rattle.sql_base.specs.Typing as typed
 use Rattle.sql_base.specs.Eval as valued
 use Rattle.sql_base.specs.Eval.{case, coalesce, eval, eval_arm, eval_step}
 use Rattle.sql_base.specs.Shape.{has_type}
-use Rattle.sql_base.specs.Laws.{Suits, Sound, Holds, IsSound}
+use Rattle.sql_base.specs.Laws.{Sound, Holds, IsSound}
 use Rattle.sql_base.proofs.Operators.{sound_not, sound_neg, sound_is_null, sound_binary}
 use Rattle.sql_base.proofs.Branches.{branch_of, coalesce_step, case_step, sound_arm, sound_else}
 use Rattle.sql_base.proofs.Calls.{AllAgree, every_step, sound_all, sound_cast_of}

@@ -10,7 +10,7 @@ use Rattle.sql_base.specs.declared.values.Ty.TheVariants as ty
 use Rattle.sql_base.specs.declared.exprs.Func.{Func}
 use Rattle.sql_base.specs.declared.exprs.Func.TheVariants as func
 use Rattle.sql_base.specs.declared.faults.EvalFault.TheVariants as fault
-use Rattle.sql_base.specs.Value.{Outcome, whole, value_cmp, accepts, is_truth}
+use Rattle.sql_base.specs.Value.{Outcome, whole, alike}
 
 abbrev pub trim_front : List ℕ → List ℕ
 trim_front [] = []
@@ -67,7 +67,7 @@ cast _ to = Ok Null
 
 -- NULL where the two are equal
 abbrev pub nullif : Value → Value → Value
-nullif a b = if is_truth true (accepts false true false (value_cmp a b)) then Null else a
+nullif a b = if alike a b then Null else a
 
 abbrev pub text_call : Func → List ℕ → Outcome
 text_call func.Upper t = Ok (Text (map to_ascii_uppercase t))

@@ -7,6 +7,7 @@ use Rattle.sql_base.specs.Value.{Outcome}
 use Rattle.sql_base.specs.Eval.{eval, value_at, column_at}
 use Rattle.sql_base.specs.Typing.{Typed, type_of, column_type, column_named}
 use Rattle.sql_base.specs.Shape.{has_type, fits_columns}
+use Rattle.sql_base.specs.Tree.{names_column}
 
 -- ---- a typed expression comes to a value of its type
 
@@ -30,3 +31,13 @@ pub record Holds (shape : Shape) (row : List Value) : Type 0 where
 
 abbrev pub IsSound : Type 0
 IsSound = (shape : Shape) (row : List Value) (e : Expr) → Holds shape row → Sound (type_of shape e) (eval shape row e)
+
+-- ---- an expression looks only at the columns that it names
+
+-- Two rows, of one shape or of two, have the same value in each column that the expression names.
+abbrev pub AgreeOn : Expr → Shape → List Value → Shape → List Value → Type 0
+AgreeOn e shape row other_shape other = (name : List ℕ) → names_column name e ≡ true → value_at row (column_at shape name) ≡ value_at other (column_at other_shape name)
+
+-- Over such rows it comes to the same, value or fault.
+abbrev pub LooksAtNamedColumns : Type 0
+LooksAtNamedColumns = (e : Expr) (shape : Shape) (row : List Value) (other_shape : Shape) (other : List Value) → AgreeOn e shape row other_shape other → eval shape row e ≡ eval other_shape other e

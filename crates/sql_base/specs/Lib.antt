@@ -2,8 +2,10 @@ pub mod Cast
 pub mod Eval
 pub mod Laws
 pub mod Outcome
+pub mod Row
 pub mod Shape
 pub mod Text
+pub mod Tree
 pub mod Typing
 pub mod Value
 pub mod Weight

@@ -92,6 +92,10 @@ accepts less equal greater (Some Less) = Truth less
 accepts less equal greater (Some Equal) = Truth equal
 accepts less equal greater (Some Greater) = Truth greater
 
+-- whether `x = y` is true: neither is NULL, and they are equal
+abbrev pub alike : Value → Value → Bool
+alike x y = is_truth true (accepts false true false (value_cmp x y))
+
 -- ---- text
 
 abbrev pub max_text : ℕ

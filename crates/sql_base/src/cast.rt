@@ -12,7 +12,7 @@ use crate::copies::Copying;
 use crate::exprs::Func;
 use crate::faults::EvalFault;
 use crate::memory::NoMemory;
-use crate::operate::{accepts, is_truth, ordering, whole};
+use crate::operate::{alike, whole};
 use crate::texts::SqlText;
 use crate::values::{Ty, Value};
 use std::alloc::Global;
@@ -126,7 +126,7 @@ pub fn cast(alloc: Global, value: &Value, to: Ty) -> Result<Value, EvalFault>
 fn nullif(alloc: Global, a: &Value, b: &Value) -> Result<Value, NoMemory>
     ensures { IfOk result (λ v. v ≡ spec.nullif a.now b.now) }
 {
-    if is_truth(true, &accepts(false, true, false, ordering(a, b))) {
+    if alike(a, b) {
         Ok(Value::Null)
     } else {
         a.copy(alloc)

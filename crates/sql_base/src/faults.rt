@@ -18,6 +18,28 @@ pub enum EvalFault {
     NoMemory,
 }
 
+/// What is wrong with a row of a shape.
+#[derive(Clone, Copy, Debug, PartialEq, Eq)]
+pub enum RowFault {
+    /// NULL in the NOT NULL column at this place, from 0.
+    Null(u32),
+    /// The check at this place, from 0, is false.
+    Check(u64),
+    /// The check at this place, from 0, has no value.
+    Eval(u64, EvalFault),
+}
+
+/// Why a script doesn't read.
+#[derive(Clone, Copy, Debug, PartialEq, Eq, Error)]
+pub enum ScriptFault {
+    /// The first line, from 1, that breaks the rules of scripts.
+    #[error("line {0} of the script does not read")]
+    Line(u32),
+    /// Memory was refused.
+    #[error("out of memory")]
+    NoMemory,
+}
+
 /// Why an expression has no type.
 #[derive(Debug, Drop, Error)]
 pub enum TypeFault {
@@ -37,6 +59,17 @@ impl From<NoMemory> for EvalFault {
 
     fn from(_refused: NoMemory) -> EvalFault {
         EvalFault::NoMemory
+    }
+}
+
+impl From<NoMemory> for ScriptFault {
+    ghost use Rattle.std.specs.Prelude.{◌≡◌};
+    ghost use Rattle.sql_base.specs.declared.faults.ScriptFault.TheVariants as fault;
+
+    ghost from_gives = { λ _ e. e ≡ fault.NoMemory };
+
+    fn from(_refused: NoMemory) -> ScriptFault {
+        ScriptFault::NoMemory
     }
 }
 

@@ -112,6 +112,13 @@ pub fn accepts(less: bool, equal: bool, greater: bool, found: Option<Ordering>) 
     }
 }
 
+/// Whether `x = y` is true: neither is NULL, and they are equal.
+pub fn alike(x: &Value, y: &Value) -> bool
+    ensures { result ≡ spec.alike x.now y.now }
+{
+    is_truth(true, &accepts(false, true, false, ordering(x, y)))
+}
+
 fn concat(alloc: Global, x: &Value, y: &Value) -> Result<Value, EvalFault>
     ensures { Gives EvalFault.NoMemory (spec.concat x.now y.now) result }
 {

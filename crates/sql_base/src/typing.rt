@@ -101,10 +101,7 @@ fn one_type(types: &[Option<Ty>]) -> Result<Option<Ty>, TypeFault>
 }
 
 /// CASE with arms of these types, each a condition's and a branch's, and an ELSE of this type.
-fn case_type(
-    arms: &[(Option<Ty>, Option<Ty>)],
-    other: Option<Ty>,
-) -> Result<Option<Ty>, TypeFault>
+fn case_type(arms: &[(Option<Ty>, Option<Ty>)], other: Option<Ty>) -> Result<Option<Ty>, TypeFault>
     ensures { result ≡ spec.case_type None arms.now other }
 {
     let mut branches = None;
