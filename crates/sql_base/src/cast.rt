@@ -37,6 +37,7 @@ fn trim_back(text: &str) -> &str
     left
 }
 
+/// The text without the spaces at both ends.
 pub fn trimmed(text: &str) -> &str
     ensures { result.now ≡ spec.trimmed text.now }
 {
@@ -108,6 +109,9 @@ fn truth(alloc: Global, b: bool) -> Result<SqlText, NoMemory>
     Ok(SqlText::from_string(String::from_str(alloc, text)?))
 }
 
+/// The value as one of another type; NULL stays NULL.
+///
+/// An error is `BadText` where the text doesn't read as the type, `Range` where its number is no bigint, or want of memory.
 pub fn cast(alloc: Global, value: &Value, to: Ty) -> Result<Value, EvalFault>
     ensures { Gives EvalFault.NoMemory (spec.cast value.now to) result }
 {
@@ -170,7 +174,9 @@ fn text_call(alloc: Global, func: Func, text: &SqlText) -> Result<Value, EvalFau
     }
 }
 
-/// A function whose arguments are all evaluated first.
+/// What a function whose arguments are all evaluated first gives of these.
+///
+/// Of arguments of another type or number it is NULL. An error is want of memory.
 pub fn called(alloc: Global, func: Func, args: &[Value]) -> Result<Value, EvalFault>
     ensures { Gives EvalFault.NoMemory (spec.called func args.now) result }
 {

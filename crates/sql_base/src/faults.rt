@@ -6,14 +6,19 @@ use thiserror::Error;
 /// Why an expression has no value.
 #[derive(Clone, Copy, Debug, PartialEq, Eq, Error)]
 pub enum EvalFault {
+    /// The divisor of `/` or `%` is 0: code 22012.
     #[error("division by zero")]
     DivZero,
+    /// A number is no bigint: code 22003.
     #[error("a number is out of range")]
     Range,
+    /// A text doesn't read as the type of a cast: code 22P02.
     #[error("a text does not read as the type")]
     BadText,
+    /// A text of `||` is longer than 4,096 bytes: code 54000.
     #[error("a text is too long")]
     TooLong,
+    /// Memory was refused.
     #[error("out of memory")]
     NoMemory,
 }
@@ -43,10 +48,13 @@ pub enum ScriptFault {
 /// Why an expression has no type.
 #[derive(Debug, Drop, Error)]
 pub enum TypeFault {
+    /// No column of the shape has this name: code 42703.
     #[error("the shape has no such column")]
     NoColumn(Name),
+    /// A part has another type than its form asks: code 42804.
     #[error("a part has another type than its form asks")]
     Mismatch,
+    /// Memory was refused.
     #[error("out of memory")]
     NoMemory,
 }

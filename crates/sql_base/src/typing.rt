@@ -14,6 +14,7 @@ use crate::texts::Name;
 use crate::values::{Ty, Value};
 use std::alloc::Global;
 
+/// The column of a name.
 pub fn column_named<'a>(shape: &'a Shape, name: &Name) -> Option<&'a Column>
     ensures { option_copied result ≡ spec.column_named shape.now name.now }
 {
