@@ -4,6 +4,8 @@ pub mod Laws
 pub mod Outcome
 pub mod Row
 pub mod Shape
+pub mod Small
+pub mod SmallSteps
 pub mod Text
 pub mod Tree
 pub mod Typing

@@ -13,6 +13,7 @@ mod memory;
 pub mod operate;
 mod rows;
 mod shapes;
+pub mod small;
 mod stmts;
 #[cfg(test)]
 mod tests;
