@@ -5,7 +5,7 @@ use Rattle.pgroll_top.specs.declared.ending.End.{End}
 use Rattle.pgroll_top.specs.declared.ending.End.TheVariants.{Done, Usage, ReadFault, InputTooLong, WantOfMemory}
 use Rattle.roll_core.specs.declared.model.Entry.{Entry}
 use Rattle.pg_io.specs.Outside.{Known, Faulted, PassesLimit, IsWithin, IsBeyond, ReadsWhole}
-use Rattle.pgroll_top.specs.Top.{IsForm, Explains, Because, limit, status_of}
+use Rattle.pgroll_top.specs.Top.{IsForm, HasInput, IsDone, Explains, Because, limit, status_of}
 
 -- an end by its status
 ended : {X : Type 0} (words : List (List ℕ)) (input : Known) (end : End) (h shown : List Entry) → Because words input end h shown
@@ -34,7 +34,7 @@ module _ (words : List (List ℕ)) (input output : Known) (status : ℕ) where
   write_cause (h, (history, inl (end, shown, because, inl closes))) e = ended words input end h shown because
       ((λ s. absurd (omega (arith, closes.0))), (λ s no. absurd (omega (arith, closes.0))), (λ s f. absurd (omega (arith, closes.0))), (λ s f. absurd (omega (arith, closes.0))), (λ s. absurd (omega (arith, closes.0))))
   write_cause (h, (history, inl (end, shown, because, inr cut))) e = cut.1.failed
-  write_cause (h, (history, inr (form, four, (text, whole, (done, last, split, begins, cut))))) e = cut.failed
+  write_cause (h, (history, inr (form, four, part, (done, last, split, cut)))) e = cut.failed
 
   pub long_cause : (h : List Entry) × Explains words input output status h → status ≡ 8 → PassesLimit limit input.before input.after
   long_cause (h, (history, inl (end, shown, because, inl closes))) e = ended words input end h shown because
@@ -43,11 +43,11 @@ module _ (words : List (List ℕ)) (input output : Known) (status : ℕ) where
   long_cause (h, (history, inr breaks)) e = absurd (omega (arith, breaks.1))
 
 module _ (words : List (List ℕ)) (input output : Known) (status : ℕ) where
-  pub complete : (h : List Entry) × Explains words input output status h → IsForm words → IsWithin limit input.before → ¬ Faulted input → ¬ Faulted output → (status ≡ 0) ⊎ (status ≡ 6)
+  pub complete : (h : List Entry) × Explains words input output status h → IsForm words → (HasInput words → IsWithin limit input.before) → ¬ Faulted input → ¬ Faulted output → IsDone status ⊎ (status ≡ 6)
   complete (h, (history, inl (end, shown, because, inl closes))) form within no_read no_write = ended words input end h shown because
-      ((λ s. inl (closes.0 ∙ s)), (λ s no. absurd (no form)), (λ s f. absurd (no_read f)), (λ s f. absurd (within_passes limit input.before input.after within f)), (λ s. inr (closes.0 ∙ s)))
+      ((λ s. inl (closes.0 ∙ s)), (λ s no. absurd (no form)), (λ s f. absurd (no_read f)), (λ s f. absurd (within_passes limit input.before input.after (within form) f)), (λ s. inr (closes.0 ∙ s)))
   complete (h, (history, inl (end, shown, because, inr cut))) form within no_read no_write = absurd (no_write cut.1.failed)
-  complete (h, (history, inr (four_form, four, (text, whole, (done, last, split, begins, cut))))) form within no_read no_write = absurd (no_write cut.failed)
+  complete (h, (history, inr (four_form, four, part, (done, last, split, cut)))) form within no_read no_write = absurd (no_write cut.failed)
 
 long_ends : (words : List (List ℕ)) (input : Known) (end : End) (h shown : List Entry) → Because words input end h shown → IsForm words → IsBeyond limit input.before → ¬ Faulted input → (status_of end ≡ 8) ⊎ (status_of end ≡ 6)
 long_ends words input Done h shown b form beyond never = absurd (beyond_whole limit input.before input.after b.1.0 beyond b.1.1.0 b.1.1.1)
@@ -64,13 +64,13 @@ usage_ends words input InputTooLong h shown b never = absurd (never b.0)
 usage_ends words input WantOfMemory h shown b never = absurd (never b.0)
 
 module _ (words : List (List ℕ)) (input output : Known) (status : ℕ) where
-  pub complete_long : (h : List Entry) × Explains words input output status h → IsForm words → IsBeyond limit input.before → ¬ Faulted input → ¬ Faulted output → (status ≡ 8) ⊎ (status ≡ 6)
+  pub complete_long : (h : List Entry) × Explains words input output status h → HasInput words → IsBeyond limit input.before → ¬ Faulted input → ¬ Faulted output → (status ≡ 8) ⊎ (status ≡ 6)
   complete_long (h, (history, inl (end, shown, because, inl closes))) form beyond no_read no_write =
       ⊎_elim (λ e. inl (closes.0 ∙ e)) (λ e. inr (closes.0 ∙ e)) (long_ends words input end h shown because form beyond no_read)
   complete_long (h, (history, inl (end, shown, because, inr cut))) form beyond no_read no_write = absurd (no_write cut.1.failed)
-  complete_long (h, (history, inr (same, four, (text, whole, (done, last, split, begins, cut))))) form beyond no_read no_write = absurd (no_write cut.failed)
+  complete_long (h, (history, inr (same, four, part, (done, last, split, cut)))) form beyond no_read no_write = absurd (no_write cut.failed)
 
   pub complete_usage : (h : List Entry) × Explains words input output status h → ¬ IsForm words → ¬ Faulted output → status ≡ 2
   complete_usage (h, (history, inl (end, shown, because, inl closes))) never no_write = closes.0 ∙ usage_ends words input end h shown because never
   complete_usage (h, (history, inl (end, shown, because, inr cut))) never no_write = absurd (no_write cut.1.failed)
-  complete_usage (h, (history, inr (same, four, (text, whole, (done, last, split, begins, cut))))) never no_write = absurd (no_write cut.failed)
+  complete_usage (h, (history, inr (same, four, part, (done, last, split, cut)))) never no_write = absurd (no_write cut.failed)

@@ -1,7 +1,7 @@
 -- How a call ends.
 use Rattle.std.proofs.Common.{◌≡◌, ℕ, ◌<◌, ◌≤◌, List, [], ◌∷◌, length, get_or, map, Option, String, Global, string_bytes, refl, sym, ap, subst, inl, inr, arith, IsErrOf, Err}
 use Rattle.std.specs.Io.KnownBytes.{Appends}
-use Rattle.pg_io.specs.Outside.{Known, Faulted, PassesLimit}
+use Rattle.pg_io.specs.Outside.{Known, Faulted, PassesLimit, ReadsFront}
 use Rattle.pg_io.specs.declared.whole.InputFault.{InputFault}
 use Rattle.pg_io.specs.declared.whole.InputFault.TheVariants.{Failed as InputFailed, TooLong, NoMemory as OutOfMemory}
 use Rattle.pg_io.proofs.Known.{appends_more, rose_since}
@@ -11,15 +11,17 @@ use Rattle.pgroll_top.specs.declared.ending.End.{End}
 use Rattle.pgroll_top.specs.declared.ending.End.TheVariants.{WantOfMemory}
 use Rattle.pgroll_top.specs.declared.ending.Stop.TheVariants.{NoMemory}
 use Rattle.pgroll_top.specs.Work.{IsHistory, Begins, lines_of}
-use Rattle.pgroll_top.specs.Top.{Closes, IsForm, IsInput, Works, Explains, end_line, end_of_fault, limit}
+use Rattle.pgroll_top.specs.Parts.{Works, end_of_fault}
+use Rattle.pgroll_top.specs.Top.{Closes, IsForm, IsInput, Explains, end_line, limit}
 
 -- a call that read its input in part
 pub unread : {T : Type 0} (words : List (List ℕ)) (input output : Known) (status : ℕ) (fault : InputFault)
-    → IsForm words → (IsErrOf {T = T} (Err fault) InputFailed → Faulted input) → (IsErrOf {T = T} (Err fault) TooLong → PassesLimit limit input.before input.after)
+    → IsForm words → ReadsFront input.before input.after
+    → (IsErrOf {T = T} (Err fault) InputFailed → Faulted input) → (IsErrOf {T = T} (Err fault) TooLong → PassesLimit limit input.before input.after)
     → Closes output [] (end_of_fault fault) status → (h : List Entry) × Explains words input output status h
-unread words input output status InputFailed form failed long closes = ([], ((beginning, refl), inl (end_of_fault InputFailed, [], (form, failed refl, refl, refl), closes)))
-unread words input output status TooLong form failed long closes = ([], ((beginning, refl), inl (end_of_fault TooLong, [], (form, long refl, refl, refl), closes)))
-unread words input output status OutOfMemory form failed long closes = ([], ((beginning, refl), inl (end_of_fault OutOfMemory, [], (form, inr refl, ([], refl)), closes)))
+unread words input output status InputFailed form front failed long closes = ([], ((beginning, refl), inl (end_of_fault InputFailed, [], (form, failed refl, front, refl, refl), closes)))
+unread words input output status TooLong form front failed long closes = ([], ((beginning, refl), inl (end_of_fault TooLong, [], (form, long refl, refl, refl), closes)))
+unread words input output status OutOfMemory form front failed long closes = ([], ((beginning, refl), inl (end_of_fault OutOfMemory, [], (form, inr (refl, front), inl refl), closes)))
 
 -- a line behind those that were written
 pub closes_after : (before middle now : Option (List ℕ)) (a b c : ℕ) (whole : List ℕ) (end : End) (status : ℕ)

@@ -1,5 +1,5 @@
 -- The work on a text, a line at a time.
-use Rattle.std.proofs.Common.{arith, ◌≡◌, ℕ, ◌+◌, ◌<◌, ◌≤◌, false, List, [], ◌∷◌, ◌++◌, length, Option, Result, Err, sym, refl, ap, ◌∙◌, subst, append_assoc, append-nil, length-append}
+use Rattle.std.proofs.Common.{arith, ◌≡◌, ℕ, ◌+◌, ◌<◌, ◌≤◌, false, List, [], ◌∷◌, ◌++◌, length, Option, Result, Err, sym, refl, ap, ◌∙◌, subst, append_assoc, append-nil, length-append, inl, inr}
 use Rattle.std.proofs.lemmas.Grind.{flat_map-append}
 use Rattle.std.specs.Io.KnownBytes.{Appends}
 use Rattle.pg_io.specs.Outside.{Known, Cut}
@@ -15,8 +15,8 @@ use Rattle.roll_core.specs.Step.{Step, Run}
 use Rattle.pgroll_top.specs.declared.ending.Stop.{Stop}
 use Rattle.pgroll_top.specs.declared.ending.Stop.TheVariants.{WriteFault, NoMemory}
 use Rattle.pgroll_top.specs.Input.{split_lines, is_passed, statements_of}
-use Rattle.pgroll_top.specs.Work.{ReadsAs, IsSaid, AreSaid, IsHistory, first_path, line_of, lines_of, main}
-use Rattle.pgroll_top.specs.Top.{Shows, Works}
+use Rattle.pgroll_top.specs.Work.{ReadsAs, IsSaid, AreSaid, IsHistory, first_path, line_of, lines_of, main_actor}
+use Rattle.pgroll_top.specs.Parts.{Shows, Works}
 
 -- How far the work has come: the history leads to the state as it is, it does the lines before the rest, and its lines are written.
 pub record Worked (text rest : List ℕ) (state : State) (number : ℕ) (output : Known) (history : List Entry) : Type 0 where
@@ -55,7 +55,7 @@ module _ (text rest line after : List ℕ) (state next : State) (number : ℕ) (
     (first : split_lines rest ≡ line ∷ split_lines after) (kept : is_passed line ≡ false) (reads : ReadsAs line reading) (step : Step state (Said first_path reading) reply next) where
   -- the entry of the line
   abbrev pub entry : Entry
-  entry = record { number = number + 1; actor = main; event = Said first_path reading; reply = reply }
+  entry = record { number = number + 1; actor = main_actor; event = Said first_path reading; reply = reply }
 
   all_more : (done : List (List ℕ)) → statements_of text ≡ done ++ statements_of rest → statements_of text ≡ (done ++ line ∷ []) ++ statements_of after
   all_more done all = all ∙ ap (λ z. done ++ z) (statement_first rest line after first kept) ∙ sym (append_assoc done (line ∷ []) (statements_of after))
@@ -91,18 +91,20 @@ module _ (text rest line after : List ℕ) (state next : State) (number : ℕ) (
     history ++ entry ∷ [],
     (next, history_more w.count w.run),
     (
-      history,
-      entry,
-      refl,
       (w.done ++ line ∷ [], statements_of after, all_more w.done w.all, said_entry w.done w.said),
-      record {
-        front = shown.front;
-        missing = shown.missing;
-        split = shown.split;
-        some = shown.some;
-        written = appends_more before middle now (lines_of history) shown.front _ refl w.written shown.written;
-        failed = rose_since a b c w.later shown.failed;
-      },
+      (
+        history,
+        entry,
+        refl,
+        record {
+          front = shown.front;
+          missing = shown.missing;
+          split = shown.split;
+          some = shown.some;
+          written = appends_more before middle now (lines_of history) shown.front _ refl w.written shown.written;
+          failed = rose_since a b c w.later shown.failed;
+        },
+      ),
     ),
   )
   worked_stopped before middle now a b c NoMemory w shown = (
@@ -110,7 +112,7 @@ module _ (text rest line after : List ℕ) (state next : State) (number : ℕ) (
     (next, history_more w.count w.run),
     (
       history,
-      (entry ∷ [], refl),
+      inr (entry, refl),
       (w.done ++ line ∷ [], statements_of after, all_more w.done w.all, said_entry w.done w.said),
       appends_kept before middle now (lines_of history) w.written shown,
     ),
@@ -118,4 +120,4 @@ module _ (text rest line after : List ℕ) (state next : State) (number : ℕ) (
 
 -- no work could be done for want of memory
 pub no_work : (text : List ℕ) (told : Option (List ℕ)) (a b : ℕ) → (h : List Entry) × IsHistory h × Works text (record { before = told; after = told; faults_before = a; faults_after = b }) (Err NoMemory) h
-no_work text told a b = ([], (beginning, refl), ([], ([], refl), ([], statements_of text, refl, tt), appends_none told))
+no_work text told a b = ([], (beginning, refl), ([], inl refl, ([], statements_of text, refl, tt), appends_none told))

@@ -1,5 +1,5 @@
 -- Histories, and what it means that a history does the work of an input.
-use Rattle.std.specs.Prelude.{◌≡◌, ℕ, List, [], ◌∷◌, ◌++◌, Option, None, Some, codes}
+use Rattle.std.specs.Prelude.{◌≡◌, ◌⊎◌, ℕ, List, [], ◌∷◌, ◌++◌, codes}
 use Rattle.sql_base.specs.declared.stmts.Stmt.{Stmt}
 use Rattle.sql_base.specs.Small.{Reads}
 use Rattle.roll_core.specs.declared.model.Entry.{Entry}
@@ -14,12 +14,12 @@ use Rattle.pgroll_top.specs.Input.{statements_of}
 
 -- ---- actors
 
--- The actors of a call: control, and main, which says the statements of `exec`.
+-- The actors of a call, by their numbers from 0: control, and main, which says the statements of `exec`.
 abbrev pub actors : List (List ℕ)
 actors = codes "control" ∷ codes "main" ∷ []
 
-abbrev pub main : ℕ
-main = 1
+abbrev pub main_actor : ℕ
+main_actor = 1
 
 -- ---- histories
 
@@ -34,9 +34,9 @@ lines_of history = lines.lines_of actors history
 abbrev pub line_of : Entry → List ℕ
 line_of entry = lines.line_of actors entry
 
--- Some entries are the first ones of a history.
-abbrev pub IsFront : List Entry → List Entry → Type 0
-IsFront shown history = (later : List Entry) × (history ≡ shown ++ later)
+-- Which entries had their lines written: all, or all but the last, whose line found no memory. No entry comes after that one.
+abbrev pub IsShown : List Entry → List Entry → Type 0
+IsShown shown history = (history ≡ shown) ⊎ ((last : Entry) × (history ≡ shown ++ last ∷ []))
 
 -- ---- the work of an input
 
@@ -45,19 +45,14 @@ abbrev pub ReadsAs : List ℕ → Reading → Type 0
 ReadsAs line (Read stmt) = Reads line stmt
 ReadsAs line Syntax = (stmt : Stmt) → ¬ Reads line stmt
 
--- What a reader finds in a line: the statement that stands there, or none where none does.
-abbrev pub IsReading : List ℕ → Option Stmt → Type 0
-IsReading line None = ReadsAs line Syntax
-IsReading line (Some stmt) = ReadsAs line (Read stmt)
-
 -- An entry is the one event of a line: main says what the line reads as, through this path of versions.
 pub record IsSaid (path : List (List ℕ)) (line : List ℕ) (entry : Entry) : Type 0 where
   pub reading : Reading
   pub reads : ReadsAs line reading
   pub event : entry.event ≡ Said path reading
-  pub actor : entry.actor ≡ main
+  pub actor : entry.actor ≡ main_actor
 
--- The path that statements go through at first: the version that a call begins with.
+-- The path that statements go through: the version that a call begins with.
 abbrev pub first_path : List (List ℕ)
 first_path = path_name beginning.version ∷ []
 

@@ -1,7 +1,8 @@
 //! How a call ends.
 ghost use Rattle.std.specs.Prelude.{◌≡◌, ◌≤◌, []};
 ghost use Rattle.pg_io.specs.Outside.{known};
-ghost use Rattle.pgroll_top.specs.Top.{Closes, end_of_fault};
+ghost use Rattle.pgroll_top.specs.Parts.{end_of_fault};
+ghost use Rattle.pgroll_top.specs.Top.{Closes};
 
 use pg_io::{Failed, InputFault, Sink, write_whole};
 use sql_base::NoMemory;
@@ -85,7 +86,7 @@ impl End {
 /// The status where the writing of a line failed.
 pub const WRITE_FAULT: u8 = 4;
 
-/// Writes the line of an end, and answers the status.
+/// Writes the line of an end, and answers the status; where a write fails, that is 4.
 pub fn close<K: Sink>(out: &mut K, end: End) -> u8
     ensures closes { Closes (known K.held K.faults out.old out.new) [] end result }
     ensures later { K.faults out.old ≤ K.faults out.new }

@@ -8,8 +8,9 @@ ghost use Rattle.roll_core.specs.declared.model.Reply.{Reply as AnyReply};
 ghost use Rattle.roll_core.specs.State.{beginning};
 ghost use Rattle.roll_core.specs.Lines.{numbered};
 ghost use Rattle.roll_core.specs.Step.{Step};
-ghost use Rattle.pgroll_top.specs.Top.{Shows, Works, limit};
-ghost use Rattle.pgroll_top.specs.Work.{ReadsAs, IsReading, IsHistory, first_path};
+ghost use Rattle.pgroll_top.specs.Parts.{IsReading, Shows, Works};
+ghost use Rattle.pgroll_top.specs.Top.{limit};
+ghost use Rattle.pgroll_top.specs.Work.{ReadsAs, IsHistory, first_path};
 
 use crate::ending::Stop;
 use crate::input::{is_passed, split_line};

@@ -82,3 +82,13 @@ pub refusal-alone : (s : State) (name : List ℕ) (table : Found) (key : ℤ) (v
 refusal-alone s name table key values true there full h k f = rw h refl
 refusal-alone s name table key values false true full h k f = rw (h, k) refl
 refusal-alone s name table key values false false full h k f = rw (h, k, f) refl
+
+-- the same, from the tests themselves
+pub refusal-tests : (s : State) (name : List ℕ) (table : Found) (key : ℤ) (values : List Value) (heavy there full : Bool)
+    → nat_lt max_weight (weight values) ≡ heavy → has_key key (rows_of s table.number) ≡ there → full ≡ nat_le max_rows (row_count s)
+    → refusal s name table (row_alone key values ∷ [])
+    ≡ (if heavy then Some (heavy_row key) else (if there then Some (taken_key name key) else (if full then Some too_many_rows else None)))
+refusal-tests s name table key values heavy there full h k f =
+    refusal-alone s name table key values heavy there full h
+    (key_refusal-alone name key values (rows_of s table.number) ∙ ap (λ (t : Bool). if t then Some (taken_key name key) else None) k)
+    (size_refusal-one s (row_alone key values) full f)

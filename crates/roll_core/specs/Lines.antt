@@ -61,7 +61,7 @@ reply_text (Error code name key) =
 abbrev pub numbered : ℕ → List ℕ → Reply → List ℕ
 numbered number name reply = decimal number ++ (codes " " ++ (name ++ (codes " " ++ reply_text reply)))
 
--- The line of an entry and those of its rows. The name of actor i is the i-th of these names, from 0.
+-- The line of an entry and those of its rows. The name of actor i is the i-th of these names, from 0, and nothing where there is none.
 abbrev pub line_of : List (List ℕ) → Entry → List ℕ
 line_of names entry = numbered entry.number (slice_index_or names entry.actor []) entry.reply
 

@@ -99,11 +99,11 @@ row_refusals (row ∷ rows) = option_or (row_refusal row) (row_refusals rows)
 abbrev pub has_key : ℤ → List Kept → Bool
 has_key key rows = list_any (λ row. int_eq key row.key) rows
 
--- What is looked for in all new rows together. First the least key that a row of the table has already.
+-- What is looked for in all new rows together. First the least key that a row of the table has already. (So far there is one new row, so no key stands twice among the new ones.)
 abbrev pub key_refusal : List ℕ → List Kept → List Kept → Option Reply
 key_refusal name rows new = option_map (λ row. taken_key name row.key) (find (λ row. has_key row.key new) rows)
 
--- Then the number of rows in all tables, as it would be.
+-- Then the number of rows in all tables, as it would be. (The total weight of a statement, which comes before, can't be passed by one row.)
 abbrev pub size_refusal : State → List Kept → Option Reply
 size_refusal s new = if nat_lt max_rows (row_count s + length new) then Some too_many_rows else None
 

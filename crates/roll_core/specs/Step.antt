@@ -19,7 +19,7 @@ abbrev pub ComesTo : State → Outcome → Reply → State → Type 0
 ComesTo s (Ok accepted) reply t = (reply ≡ accepted.0) × (t ≡ accepted.1)
 ComesTo s (Err refusal) reply t = (reply ≡ refusal) × (t ≡ s)
 
--- Memory was wanting, and nothing changed.
+-- The reply is want of memory, and nothing changed. Whether memory really was wanting isn't said.
 abbrev pub FindsNoMemory : State → Reply → State → Type 0
 FindsNoMemory s reply t = (reply ≡ no_memory) × (t ≡ s)
 

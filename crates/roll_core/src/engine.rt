@@ -23,10 +23,10 @@ use std::marker::Model;
 const MAX_WEIGHT: u64 = 4096;
 
 /// The most rows in all tables.
-const MAX_ROWS: usize = 262_144;
+pub const MAX_ROWS: usize = 262_144;
 
 /// The most rows of one SELECT.
-const MAX_REPLY: usize = 10_000;
+pub const MAX_REPLY: usize = 10_000;
 
 /// The engine. Contracts see it as the state of the machine that it means.
 #[derive(Drop)]
@@ -78,8 +78,8 @@ fn users(alloc: Global) -> Result<Shape, NoMemory>
     })
 }
 
-// Whether a row of these values is too heavy.
-fn is_heavy(values: &[Value]) -> bool
+/// Whether a row of these values is too heavy.
+pub fn is_heavy(values: &[Value]) -> bool
     ensures { result ≡ spec.is_heavy (Some values.now) }
 {
     weight(values) > MAX_WEIGHT

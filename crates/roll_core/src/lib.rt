@@ -10,6 +10,8 @@
 mod engine;
 mod literals;
 pub mod model;
+mod plain;
 mod refusals;
 
 pub use engine::Core;
+pub use plain::step;

@@ -1,6 +1,6 @@
 use Rattle.std.proofs.Common.{subst}
 use Rattle.roll_core.specs.declared.model.Reading.TheVariants.{Stmt as Read}
-use Rattle.pgroll_top.specs.Work.{IsReading}
+use Rattle.pgroll_top.specs.Parts.{IsReading}
 use Rattle.pgroll_top.proofs.exec.said.Goals as goal
 
 pub returns-in-Some : goal.returns-in-Some
