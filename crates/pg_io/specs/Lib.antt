@@ -1,3 +1,5 @@
 pub mod Causes
 pub mod Outside
 pub mod Memory
+pub mod Disk
+pub mod Replay
