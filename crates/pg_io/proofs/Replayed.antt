@@ -79,10 +79,13 @@ same_cut : (n : ℕ) (c : List ℕ) → Shortened n c c
 same_cut n c = record { no_shorter = omega arith; front = take_all (length c) c (omega arith) }
 
 cut_now : (n : ℕ) (old : List ℕ) → Shortened n old (take n old)
-cut_now n old = record { no_shorter = omega (arith, length-take n old); front = elim (cases_lt (length old) n) [
-  | inl long ↦ (let whole = take_all n old (omega (arith, long)) in ap (λ (l : List ℕ). take (length l) old) whole ∙ take_all (length old) old (omega arith) ∙ sym whole)
-  | inr short ↦ (let size : length (take n old) ≡ n = omega (arith, length-take n old, short) in ap (λ (k : ℕ). take k old) size)
-] }
+cut_now n old = record {
+  no_shorter = omega (arith, length-take n old);
+  front = elim (cases_lt (length old) n) [
+    | inl long ↦ (let whole = take_all n old (omega (arith, long)) in ap (λ (l : List ℕ). take (length l) old) whole ∙ take_all (length old) old (omega arith) ∙ sym whole)
+    | inr short ↦ (let size : length (take n old) ≡ n = omega (arith, length-take n old, short) in ap (λ (k : ℕ). take k old) size)
+  ];
+}
 
 -- ---- the clauses of a disk, where nothing was changed
 

@@ -3,3 +3,4 @@ pub mod Outside
 pub mod Memory
 pub mod Disk
 pub mod Replay
+pub mod Fuse

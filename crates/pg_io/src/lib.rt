@@ -10,7 +10,9 @@ ghost use Rattle.std.specs.Io.KnownBytes.{ReadConsumes, WriteAppends};
 ghost use Rattle.pg_io.specs.Causes.{HasCause, TakesSome};
 
 mod device;
+mod fuse;
 mod memory;
+mod on_file;
 mod recorded;
 mod schedule;
 mod streams;
@@ -19,7 +21,9 @@ mod tests;
 mod whole;
 
 pub use device::Disk;
+pub use fuse::FuseDisk;
 pub use memory::{MemSink, MemSource};
+pub use on_file::FileDisk;
 pub use recorded::{Call, MemDisk};
 pub use streams::{StdSink, StdSource};
 pub use whole::{InputFault, read_whole, write_whole};
