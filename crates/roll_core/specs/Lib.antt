@@ -1,0 +1,5 @@
+pub mod State
+pub mod Statement
+pub mod Step
+pub mod Lines
+pub mod Engine

@@ -1,0 +1,14 @@
+//! The engine, and the machine that it is: what every statement answers and leaves.
+//!
+//! `model` has the machine as plain data: its states, its events and its replies. The definitions of what it
+//! may answer stand in `specs/`: `State` how a statement finds its table and the rows in it, `Statement` what
+//! each statement comes to, `Step` the step and the run, `Lines` how a history is told. `Core` is the engine:
+//! it keeps its rows in a map, and each call is one step of the machine.
+#![tactic(auto)]
+
+mod engine;
+mod literals;
+pub mod model;
+mod refusals;
+
+pub use engine::Core;

@@ -1,0 +1,11 @@
+pub mod Cast
+pub mod Eval
+pub mod Outcome
+pub mod Shape
+pub mod Small
+pub mod SmallSteps
+pub mod Sound
+pub mod Text
+pub mod Typing
+pub mod Value
+pub mod Weight
