@@ -181,6 +181,10 @@ module _ {D : Type 0} (moment : D → ℕ) (seen : D → List ℕ) (may_leave : 
           reads_2 : Reads (base ++ (added ++ r ∷ [])) (seen d2)
           reads_2 = subst (λ (l : List (List ℕ)). Reads l (seen d2)) same (subst (Reads (rs ++ r ∷ [])) (sym opened) (reads_more rs r rest))
 
+          -- each image has all records
+          pub grown_now : Within (may_leave d2) (Reads (base ++ (added ++ r ∷ [])))
+          grown_now c left = subst (Reads (base ++ (added ++ r ∷ []))) (sym (durable_2 c left)) reads_2
+
           records_2 : AreRecords (base ++ (added ++ r ∷ []))
           records_2 = subst AreRecords same more
 

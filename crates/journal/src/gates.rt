@@ -206,6 +206,13 @@ impl<D: Disk> Journal<D> {
         let _ = &self.phase;
     }
 
+    /// How far it has come: records can be read while it is `Reading`, and appended while it is `Standing`.
+    pub fn phase(&self) -> Phase
+        ensures { result ≡ self.now.story.phase }
+    {
+        self.phase
+    }
+
     /// The disk.
     pub fn into_disk(self) -> D
         ensures { result ≡ self.story.disk }
@@ -245,6 +252,9 @@ impl<D: Disk> Journal<D> {
         ensures full { Passes self.old.story.gate body.now → result ≡ Err (KeepFault.Full self.old.story.gate) }
         ensures only_full { (len : ℕ) → result ≡ Err (KeepFault.Full len) → (len ≡ self.old.story.gate) × Passes len body.now × (self.new.story ≡ self.old.story) }
         ensures later { D.faults self.old.story.disk ≤ D.faults self.new.story.disk }
+
+        // After Ok every image has the records from before it and the new one.
+        ensures now { D.tells → OnOk result (Within (D.may_leave self.new.story.disk) (Reads (self.old.story.base ++ (self.old.story.added ++ body.now ∷ [])))) }
 
         // The record's gate stands behind the records from before.
         ensures place { D.tells → self.old.story.gate ≡ length (front (self.old.story.base ++ self.old.story.added)) }

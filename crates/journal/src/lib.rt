@@ -6,6 +6,8 @@ mod keeping;
 mod memory;
 mod pieces;
 mod stage;
+#[cfg(test)]
+mod tests;
 mod through;
 
 pub use gates::{Attached, JOURNAL_LIMIT, Journal};

@@ -10,6 +10,8 @@ ghost use Rattle.std.specs.Io.KnownBytes.{ReadConsumes, WriteAppends};
 ghost use Rattle.pg_io.specs.Causes.{HasCause, TakesSome};
 
 mod device;
+#[cfg(test)]
+mod disk_tests;
 mod fuse;
 mod memory;
 mod on_file;
