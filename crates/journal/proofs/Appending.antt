@@ -1,14 +1,14 @@
 -- What an append makes of a journal that stands.
-use Rattle.std.proofs.Common.{◌≡◌, ◌≢◌, ◌⊎◌, inl, inr, ⊎_elim, ℕ, zero, suc, ◌+◌, ◌-◌, ◌≤◌, ◌<◌, List, [], ◌∷◌, ◌++◌, length, get_or, take, drop, refl, sym, ◌∙◌, ap, subst, arith, append_assoc, length-append}
+use Rattle.std.proofs.Common.{◌≡◌, inl, inr, ⊎_elim, ℕ, zero, suc, ◌+◌, ◌≤◌, List, [], ◌∷◌, ◌++◌, length, get_or, take, drop, refl, sym, ◌∙◌, ap, subst, arith, append_assoc, length-append}
 use Rattle.std.proofs.lemmas.Bool.{cases_eq}
 use Rattle.std.proofs.lemmas.List.{append-nil, take_at, drop_at, take_all}
 use Rattle.pg_io.specs.Disk.{Holds, Torn, Only, Within, LeavesOnly}
 use Rattle.journal.specs.Records.{IsRecord, AreRecords, lead, pieces, front, Reads, recovered, behind_text}
-use Rattle.journal.specs.Story.{Story, story_of, pending_of, IsAllBut, IsFrontOf, Promises, IsSettled, IsKept}
+use Rattle.journal.specs.Story.{story_of, pending_of, IsAllBut, IsFrontOf, IsKept}
 use Rattle.journal.specs.declared.stage.Phase.{Phase}
 use Rattle.journal.specs.declared.stage.Phase.TheVariants.{Standing, Fallen, Undecided}
 use Rattle.journal.proofs.Moments.{started, weaker, joined}
-use Rattle.journal.proofs.Text.{front_recovered, reads_recovered, behind_gate, torn_behind, written_behind, torn_gate, written_gate, pieces-push, are-push, opened_text, reads_more}
+use Rattle.journal.proofs.Text.{front_recovered, reads_recovered, behind_gate, torn_behind, written_behind, torn_gate, written_gate, pieces-push, are-push, reads_more}
 
 -- ---- fronts of the list
 

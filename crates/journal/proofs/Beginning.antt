@@ -1,7 +1,6 @@
 -- What a journal keeps when it is made, and what it promises.
-use Rattle.std.proofs.Common.{◌≡◌, ◌≢◌, inl, ℕ, zero, suc, ◌+◌, ◌≤◌, List, [], ◌∷◌, ◌++◌, length, take, drop, refl, sym, ◌∙◌, ap, subst, arith}
-use Rattle.std.proofs.lemmas.List.{append-nil}
-use Rattle.pg_io.specs.Disk.{Only, Within}
+use Rattle.std.proofs.Common.{◌≡◌, ◌≢◌, inl, ℕ, List, [], ◌∷◌, ◌++◌, length, take, drop, refl, sym, subst, arith}
+use Rattle.pg_io.specs.Disk.{Only}
 use Rattle.journal.specs.Records.{head, Reads, recovered}
 use Rattle.journal.specs.Story.{Story, story_of, Promises, ByPhase, IsKept}
 use Rattle.journal.specs.declared.stage.Phase.{Phase}

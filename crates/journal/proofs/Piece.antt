@@ -1,11 +1,11 @@
 -- What was read at a gate.
-use Rattle.std.proofs.Common.{◌≡◌, ◌≢◌, ◌⊎◌, inl, inr, ⊎_elim, Result, Ok, Err, IsErrOf, ℕ, ◌+◌, ◌-◌, ◌^◌, ◌≤◌, ◌<◌, length-append, length-drop, length-take, List, [], ◌∷◌, ◌++◌, length, get_or, take, drop, refl, sym, ◌∙◌, ap, subst, arith, take-append-drop}
+use Rattle.std.proofs.Common.{◌≡◌, ◌≢◌, ◌⊎◌, inl, inr, ⊎_elim, Result, Ok, Err, IsErrOf, ℕ, ◌+◌, ◌-◌, ◌^◌, ◌≤◌, ◌<◌, length-append, length-drop, List, [], ◌∷◌, ◌++◌, length, get_or, take, drop, refl, sym, ◌∙◌, ap, arith, take-append-drop}
 use Rattle.std.specs.Int.{w32, to_be_bytes, from_be_bytes}
-use Rattle.std.proofs.lemmas.List.{drop_more, drop-drop, take_at}
+use Rattle.std.proofs.lemmas.List.{drop_more, drop-drop}
 use Rattle.std.proofs.lemmas.Nat.{from_be_bytes-to_be_bytes_4}
 use Rattle.journal.specs.declared.pieces.JournalFault.{JournalFault}
 use Rattle.journal.specs.declared.pieces.JournalFault.TheVariants.{Failed, BadRecord, NoMemory}
-use Rattle.journal.specs.Records.{IsRecord, lead, lead_of, IsPieceAt, IsShutAt, LacksRecord, IsBadAt}
+use Rattle.journal.specs.Records.{IsRecord, lead, lead_of, IsPieceAt, IsShutAt, IsBadAt}
 
 first_of : (file buf : List ℕ) (at : ℕ) → at < length file → buf ≡ take 1 (drop at file) → buf ≡ get_or file at 0 ∷ []
 first_of file buf at lt is = is ∙ ap (λ (l : List ℕ). take 1 l) (drop_more file at 0 lt)

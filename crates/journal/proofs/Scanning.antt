@@ -1,9 +1,9 @@
 -- What a journal keeps while its records are read.
-use Rattle.std.proofs.Common.{◌≡◌, ◌≢◌, inl, ℕ, ◌+◌, ◌≤◌, List, [], ◌∷◌, ◌++◌, length, take, drop, refl, sym, ◌∙◌, ap, subst, arith, append_assoc, length-append, take-append-drop}
+use Rattle.std.proofs.Common.{◌≡◌, inl, ℕ, ◌+◌, ◌≤◌, List, [], ◌∷◌, ◌++◌, length, take, drop, refl, sym, ◌∙◌, ap, subst, arith, take-append-drop}
 use Rattle.std.proofs.lemmas.List.{append-nil, take_at, drop_at, drop_all}
-use Rattle.pg_io.specs.Disk.{Only, Within, Still}
-use Rattle.journal.specs.Records.{IsRecord, AreRecords, head, lead, pieces, front, Reads, recovered, IsPieceAt, IsShutAt}
-use Rattle.journal.specs.Story.{Story, story_of, pending_of, IsKept}
+use Rattle.pg_io.specs.Disk.{Only, Still}
+use Rattle.journal.specs.Records.{IsRecord, AreRecords, head, front, Reads, recovered, IsPieceAt, IsShutAt}
+use Rattle.journal.specs.Story.{story_of, pending_of, IsKept}
 use Rattle.journal.specs.declared.stage.Phase.{Phase}
 use Rattle.journal.specs.declared.stage.Phase.TheVariants.{Reading, Standing}
 use Rattle.journal.proofs.Text.{front_recovered, pieces-push, are-push}

@@ -1,5 +1,5 @@
 -- A disk that fails for good after some calls, as contracts see it.
-use Rattle.std.specs.Prelude.{◌≡◌, ℕ, ◌+◌, ◌-◌, ◌<◌, ◌≤◌, Result, OnErr, OnOk, IsErr}
+use Rattle.std.specs.Prelude.{◌≡◌, ℕ, ◌-◌, ◌<◌, Result, OnErr, IsErr}
 use Rattle.pg_io.specs.Causes.{Rose}
 
 pub record Fused (D : Type 0) : Type 0 where

@@ -2,7 +2,7 @@
 use Rattle.std.specs.Prelude.{◌≡◌, ◌⊎◌, ℕ, ◌+◌, ◌≤◌, List, [], ◌∷◌, ◌++◌, length, take, drop, Vec, Result, OnOk, OnErr, Contains, IsErr, refl}
 use Rattle.std.specs.declared.alloc.Global.{Global}
 use Rattle.pg_io.specs.Disk.{Torn, Shortened}
-use mathlib.Core.Logic.{inl, inr}
+use mathlib.Core.Logic.{inl}
 use Rattle.std.proofs.Common.{sym, ap, subst, ◌∙◌, arith}
 use Rattle.pg_io.specs.Causes.{one_more}
 use Rattle.pg_io.specs.declared.recorded.Call.{Call}

@@ -1,4 +1,4 @@
-use Rattle.std.proofs.Common.{◌≡◌, ◌⊎◌, ◌-◌, ◌≤◌, ◌<◌, rules, ◌+◌, ℕ, List, length, take, drop, sym, ◌∙◌, ap, subst, arith, length-take, length-drop}
+use Rattle.std.proofs.Common.{◌≡◌, ◌⊎◌, ◌-◌, ◌<◌, ◌+◌, ℕ, List, length, take, drop, sym, ◌∙◌, ap, subst, arith, length-take, length-drop}
 use Rattle.std.proofs.lemmas.List.{take_at}
 use Rattle.journal.specs.Records.{IsPieceAt}
 use Rattle.journal.proofs.Piece.{shut_at, piece_at, bad_short, bad_length, not_bad, same_place}

@@ -1,8 +1,7 @@
-use Rattle.std.proofs.Common.{◌≡◌, ◌+◌, ◌*◌, ◌++◌, [], ◌∷◌, length, inr, sym, ◌∙◌, ap, subst}
+use Rattle.std.proofs.Common.{◌+◌, ◌++◌, [], ◌∷◌, length, inr, sym, ◌∙◌, ap, subst}
 use Rattle.pg_io.specs.Disk.{Holds, Within, LeavesOnly}
 use Rattle.journal.specs.Story.{story_of, pending_of, IsKept, IsAllBut}
-use Rattle.journal.specs.Records.{Reads, behind_text}
-use Rattle.journal.specs.declared.stage.Phase.TheVariants.{Standing}
+use Rattle.journal.specs.Records.{Reads}
 use Rattle.journal.proofs.Appending.{fallen, fallen_added, fallen_moments, both_moments, undecided, undecided_added, undecided_pending, grown, grown_added, grown_now}
 use Rattle.journal.proofs.gates.Journal.append.Goals as goal
 

@@ -1,4 +1,4 @@
-use Rattle.std.proofs.Common.{◌≡◌, [], ◌∷◌, ◌++◌, sym, ◌∙◌, subst}
+use Rattle.std.proofs.Common.{[], ◌∷◌, ◌++◌, sym, ◌∙◌, subst}
 use Rattle.pg_io.specs.Disk.{Holds, Only}
 use Rattle.journal.specs.Records.{head}
 use Rattle.journal.specs.Story.{story_of, IsKept}

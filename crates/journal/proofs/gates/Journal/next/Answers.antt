@@ -1,4 +1,4 @@
-use Rattle.std.proofs.Common.{◌≡◌, ◌+◌, ◌++◌, [], ◌∷◌, Ok, ℕ, List, length, take, drop, refl, sym, ◌∙◌, ap, subst, arith}
+use Rattle.std.proofs.Common.{◌≡◌, ◌+◌, ◌++◌, [], ◌∷◌, Ok, ℕ, List, length, take, sym, ◌∙◌, ap, subst, arith}
 use Rattle.journal.specs.Records.{recovered}
 use Rattle.journal.specs.Story.{story_of, IsKept}
 use Rattle.journal.specs.declared.stage.Phase.TheVariants.{Reading}

@@ -1,4 +1,4 @@
-use Rattle.std.proofs.Common.{◌≤◌, ◌/◌, length, take, ap, inr, arith, length-take}
+use Rattle.std.proofs.Common.{◌/◌, length, take, ap, inr, arith, length-take}
 use Rattle.pg_io.proofs.Replayed.{may_write_of, writes_of}
 use Rattle.pg_io.proofs.recorded.MemDisk.counted_write.Goals as goal
 

@@ -1,4 +1,4 @@
-use Rattle.std.proofs.Common.{◌≡◌, ◌+◌, ◌++◌, List, ℕ, length, take, drop, rules, ap, sym, ◌∙◌}
+use Rattle.std.proofs.Common.{◌≡◌, ◌+◌, ◌++◌, length, take, drop, rules, ap, sym, ◌∙◌}
 use Rattle.pg_io.specs.Replay.{seen_of}
 use Rattle.pg_io.specs.declared.recorded.Call.TheVariants.{Wrote}
 use Rattle.pg_io.proofs.Replayed.{replay_push}
