@@ -1,3 +1,6 @@
 pub mod Causes
 pub mod Outside
 pub mod Memory
+pub mod Disk
+pub mod Replay
+pub mod Fuse

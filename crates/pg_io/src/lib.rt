@@ -9,14 +9,24 @@ ghost use Rattle.std.specs.Io.{ReadsAtMost, WritesAtMost};
 ghost use Rattle.std.specs.Io.KnownBytes.{ReadConsumes, WriteAppends};
 ghost use Rattle.pg_io.specs.Causes.{HasCause, TakesSome};
 
+mod device;
+#[cfg(test)]
+mod disk_tests;
+mod fuse;
 mod memory;
+mod on_file;
+mod recorded;
 mod schedule;
 mod streams;
 #[cfg(test)]
 mod tests;
 mod whole;
 
+pub use device::Disk;
+pub use fuse::FuseDisk;
 pub use memory::{MemSink, MemSource};
+pub use on_file::FileDisk;
+pub use recorded::{Call, MemDisk};
 pub use streams::{StdSink, StdSource};
 pub use whole::{InputFault, read_whole, write_whole};
 

@@ -1,0 +1,4 @@
+pub mod Records
+pub mod Story
+pub mod Attaching
+pub mod Kept

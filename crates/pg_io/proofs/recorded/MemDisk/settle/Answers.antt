@@ -1,0 +1,10 @@
+use Rattle.std.proofs.Common.{◌≡◌, rules, ap, sym, ◌∙◌}
+use Rattle.pg_io.specs.Replay.{seen_of}
+use Rattle.pg_io.specs.declared.recorded.Call.TheVariants.{Synced}
+use Rattle.pg_io.proofs.Replayed.{replay_push}
+use Rattle.pg_io.proofs.recorded.MemDisk.settle.Goals as goal
+
+pub keep-requires : goal.keep-requires
+keep-requires c =
+    let now : c.in_ok-next.next.items ≡ c.self.inside.bytes.items = search rules in
+    now ∙ c.self.invariant ∙ ap seen_of c.self.view_is ∙ sym (replay_push c.args.self.now.first c.args.self.now.calls Synced)
