@@ -4,8 +4,8 @@ use Rattle.pg_io.proofs.Known.{beyond_whole, within_passes}
 use Rattle.pgroll_top.specs.declared.ending.End.{End}
 use Rattle.pgroll_top.specs.declared.ending.End.TheVariants.{Done, Usage, ReadFault, InputTooLong, WantOfMemory}
 use Rattle.roll_core.specs.declared.model.Entry.{Entry}
-use Rattle.pg_io.specs.Outside.{Known, Faulted, PassesLimit, IsWithin, IsBeyond, ReadsWhole}
-use Rattle.pgroll_top.specs.Top.{IsForm, HasInput, IsDone, Explains, Because, limit, status_of}
+use Rattle.pg_io.specs.Outside.{Known, Faulted, Quiet, PassesLimit, IsWithin, IsBeyond, ReadsWhole}
+use Rattle.pgroll_top.specs.Top.{DoesPart, IsForm, HasInput, IsDone, Explains, Because, limit, status_of}
 
 -- an end by its status
 ended : {X : Type 0} (words : List (List ℕ)) (input : Known) (end : End) (h shown : List Entry) → Because words input end h shown
@@ -74,3 +74,29 @@ module _ (words : List (List ℕ)) (input output : Known) (status : ℕ) where
   complete_usage (h, (history, inl (end, shown, because, inl closes))) never no_write = closes.0 ∙ usage_ends words input end h shown because never
   complete_usage (h, (history, inl (end, shown, because, inr cut))) never no_write = absurd (no_write cut.1.failed)
   complete_usage (h, (history, inr (same, four, part, (done, last, split, cut)))) never no_write = absurd (no_write cut.failed)
+
+-- ---- faults are told
+
+quiet_part : (input : Known) (h : List Entry) → DoesPart input h → Quiet input
+quiet_part input h (inl (text, whole, begins)) = whole.2
+quiet_part input h (inr (none, front, quiet)) = quiet
+
+-- an end without a fault of the input, or the read fault
+quiet_ends : (words : List (List ℕ)) (input : Known) (end : End) (h shown : List Entry) → Because words input end h shown → (status_of end ≡ 3) ⊎ Quiet input
+quiet_ends words input Done h shown b = inr b.1.1.2
+quiet_ends words input Usage h shown b = inr b.1.1
+quiet_ends words input ReadFault h shown b = inl refl
+quiet_ends words input InputTooLong h shown b = inr b.2
+quiet_ends words input WantOfMemory h shown b = inr (quiet_part input h b.1)
+
+module _ (words : List (List ℕ)) (input output : Known) (status : ℕ) where
+  pub write_told : (h : List Entry) × Explains words input output status h → (status ≡ 4) ⊎ Quiet output
+  write_told (h, (history, inl (end, shown, because, inl closes))) = inr closes.2
+  write_told (h, (history, inl (end, shown, because, inr cut))) = inl cut.0
+  write_told (h, (history, inr breaks)) = inl breaks.1
+
+  pub read_told : (h : List Entry) × Explains words input output status h → (status ≡ 3) ⊎ ((status ≡ 4) ⊎ Quiet input)
+  read_told (h, (history, inl (end, shown, because, inl closes))) =
+      ⊎_elim (λ e. inl (closes.0 ∙ e)) (λ q. inr (inr q)) (quiet_ends words input end h shown because)
+  read_told (h, (history, inl (end, shown, because, inr cut))) = inr (inl cut.0)
+  read_told (h, (history, inr breaks)) = inr (inl breaks.1)

@@ -27,7 +27,7 @@ pub record Worked (text rest : List ℕ) (state : State) (number : ℕ) (output 
   pub all : statements_of text ≡ done ++ statements_of rest
   pub said : AreSaid done history
   pub written : Appends output.before output.after (lines_of history)
-  pub later : output.faults_before ≤ output.faults_after
+  pub quiet : output.faults_after ≡ output.faults_before
 
 -- a run goes on by one step
 run_more : (n : ℕ) (s : State) (history : List Entry) (m : State) (entry : Entry) (t : State)
@@ -69,17 +69,17 @@ module _ (text rest line after : List ℕ) (state next : State) (number : ℕ) (
   -- the line is written
   pub worked_more : (before middle now : Option (List ℕ)) (a b c : ℕ)
       → Worked text rest state number (record { before = before; after = middle; faults_before = a; faults_after = b }) history
-      → length after < length rest → Appends middle now (line_of entry) → b ≤ c
+      → length after < length rest → Appends middle now (line_of entry) × (c ≡ b)
       → Worked text after next (number + 1) (record { before = before; after = now; faults_before = a; faults_after = c }) (history ++ entry ∷ [])
-  worked_more before middle now a b c w less shown later = record {
+  worked_more before middle now a b c w less shown = record {
     run = history_more w.count w.run;
     count = omega (arith, w.count, length-append history (entry ∷ []));
     room = omega (arith, w.room);
     done = w.done ++ line ∷ [];
     all = all_more w.done w.all;
     said = said_entry w.done w.said;
-    written = appends_more before middle now (lines_of history) (line_of entry) _ (lines_more history entry) w.written shown;
-    later = omega (arith, w.later);
+    written = appends_more before middle now (lines_of history) (line_of entry) _ (lines_more history entry) w.written shown.0;
+    quiet = shown.1 ∙ w.quiet;
   }
 
   -- the writing of the line failed, or its making
@@ -102,7 +102,7 @@ module _ (text rest line after : List ℕ) (state next : State) (number : ℕ) (
           split = shown.split;
           some = shown.some;
           written = appends_more before middle now (lines_of history) shown.front _ refl w.written shown.written;
-          failed = rose_since a b c w.later shown.failed;
+          failed = rose_since a b c (omega (arith, w.quiet)) shown.failed;
         },
       ),
     ),
@@ -114,10 +114,11 @@ module _ (text rest line after : List ℕ) (state next : State) (number : ℕ) (
       history,
       inr (entry, refl),
       (w.done ++ line ∷ [], statements_of after, all_more w.done w.all, said_entry w.done w.said),
-      appends_kept before middle now (lines_of history) w.written shown,
+      appends_kept before middle now (lines_of history) w.written shown.0,
+      shown.1 ∙ w.quiet,
     ),
   )
 
 -- no work could be done for want of memory
-pub no_work : (text : List ℕ) (told : Option (List ℕ)) (a b : ℕ) → (h : List Entry) × IsHistory h × Works text (record { before = told; after = told; faults_before = a; faults_after = b }) (Err NoMemory) h
-no_work text told a b = ([], (beginning, refl), ([], inl refl, ([], statements_of text, refl, tt), appends_none told))
+pub no_work : (text : List ℕ) (told : Option (List ℕ)) (a : ℕ) → (h : List Entry) × IsHistory h × Works text (record { before = told; after = told; faults_before = a; faults_after = a }) (Err NoMemory) h
+no_work text told a = ([], (beginning, refl), ([], inl refl, ([], statements_of text, refl, tt), appends_none told, refl))

@@ -1,7 +1,7 @@
 -- What the parts of a call do, for the contracts of the functions that do them.
 use Rattle.std.specs.Prelude.{ℕ, List, [], Option, None, Some, Result, Ok, Err}
 use Rattle.std.specs.Io.KnownBytes.{Appends, Keeps}
-use Rattle.pg_io.specs.Outside.{Known, Cut}
+use Rattle.pg_io.specs.Outside.{Known, Cut, Quiet}
 use Rattle.pg_io.specs.declared.whole.InputFault.{InputFault}
 use Rattle.pg_io.specs.declared.whole.InputFault.TheVariants.{Failed as InputFailed, TooLong, NoMemory as OutOfMemory}
 use Rattle.sql_base.specs.declared.stmts.Stmt.{Stmt}
@@ -19,17 +19,17 @@ abbrev pub IsReading : List ℕ → Option Stmt → Type 0
 IsReading line None = ReadsAs line Syntax
 IsReading line (Some stmt) = ReadsAs line (Read stmt)
 
--- A line was written; or cut short by a fault; or nothing was written for want of memory.
+-- A line was written, with no fault; or cut short by a fault; or nothing was written for want of memory.
 abbrev pub Shows : Known → List ℕ → Result (Unit {0}) Stop → Type 0
-Shows output line (Ok done) = Appends output.before output.after line
+Shows output line (Ok done) = Appends output.before output.after line × Quiet output
 Shows output line (Err WriteFault) = Cut output [] line
-Shows output line (Err NoMemory) = Keeps output.before output.after
+Shows output line (Err NoMemory) = Keeps output.before output.after × Quiet output
 
 -- What the work on an input does, by what it answers.
 abbrev pub Works : List ℕ → Known → Result (Unit {0}) Stop → List Entry → Type 0
-Works text output (Ok done) history = Follows history text × Appends output.before output.after (lines_of history)
+Works text output (Ok done) history = Follows history text × Appends output.before output.after (lines_of history) × Quiet output
 Works text output (Err WriteFault) history = Begins history text × CutAtLast output history
-Works text output (Err NoMemory) history = (shown : List Entry) × IsShown shown history × Begins history text × Appends output.before output.after (lines_of shown)
+Works text output (Err NoMemory) history = (shown : List Entry) × IsShown shown history × Begins history text × Appends output.before output.after (lines_of shown) × Quiet output
 
 -- The end of a call whose input wasn't read to its end.
 abbrev pub end_of_fault : InputFault → End

@@ -2,7 +2,7 @@
 use Rattle.std.specs.Prelude.{◌≡◌, ◌⊎◌, ℕ, ◌≤◌, List, [], ◌∷◌, ◌++◌, length, map, String, string_bytes, codes}
 use Rattle.std.specs.declared.alloc.Global.{Global}
 use Rattle.std.specs.Io.KnownBytes.{Appends}
-use Rattle.pg_io.specs.Outside.{Known, Cut, Faulted, Untouched, ReadsFront, ReadsWhole, PassesLimit}
+use Rattle.pg_io.specs.Outside.{Known, Cut, Faulted, Quiet, Untouched, ReadsFront, ReadsWhole, PassesLimit}
 use Rattle.roll_core.specs.declared.model.Entry.{Entry}
 use Rattle.pgroll_top.specs.declared.ending.End.{End}
 use Rattle.pgroll_top.specs.declared.ending.End.TheVariants.{Done, Usage, ReadFault, InputTooLong, WantOfMemory}
@@ -26,9 +26,9 @@ HasInput words = IsForm words
 abbrev pub limit : ℕ
 limit = 65536
 
--- This is the whole input, and it is within the limit. (Of a source that doesn't tell its bytes, it may be any text.)
+-- This is the whole input, it is within the limit, and no read failed. (Of a source that doesn't tell its bytes, it may be any text.)
 abbrev pub IsInput : Known → List ℕ → Type 0
-IsInput input text = ReadsWhole input.before input.after text × (length text ≤ limit)
+IsInput input text = ReadsWhole input.before input.after text × (length text ≤ limit) × Quiet input
 
 -- ---- the work
 
@@ -36,9 +36,9 @@ IsInput input text = ReadsWhole input.before input.after text × (length text �
 abbrev pub DoesAll : Known → List Entry → Type 0
 DoesAll input history = (text : List ℕ) × IsInput input text × Follows history text
 
--- The same for the first part of the work; or nothing was done, and some front of the input was read.
+-- The same for the first part of the work; or nothing was done, and some front of the input was read, with no fault.
 abbrev pub DoesPart : Known → List Entry → Type 0
-DoesPart input history = ((text : List ℕ) × IsInput input text × Begins history text) ⊎ ((history ≡ []) × ReadsFront input.before input.after)
+DoesPart input history = ((text : List ℕ) × IsInput input text × Begins history text) ⊎ ((history ≡ []) × ReadsFront input.before input.after × Quiet input)
 
 -- The last entry's line was cut short by a fault, and all lines before it are whole. No entry comes after it.
 abbrev pub CutAtLast : Known → List Entry → Type 0
@@ -74,13 +74,13 @@ abbrev pub Because : List (List ℕ) → Known → End → List Entry → List E
 Because words input Done history shown = IsForm words × DoesAll input history × (shown ≡ history)
 Because words input Usage history shown = ¬ IsForm words × Untouched input × (history ≡ []) × (shown ≡ [])
 Because words input ReadFault history shown = IsForm words × Faulted input × ReadsFront input.before input.after × (history ≡ []) × (shown ≡ [])
-Because words input InputTooLong history shown = IsForm words × PassesLimit limit input.before input.after × (history ≡ []) × (shown ≡ [])
+Because words input InputTooLong history shown = IsForm words × PassesLimit limit input.before input.after × Quiet input × (history ≡ []) × (shown ≡ [])
 Because words input WantOfMemory history shown = IsForm words × DoesPart input history × IsShown shown history
 
--- The call came to an end: some lines were written, and then the end's own line, or that one was cut short by a fault.
+-- The call came to an end: some lines were written, and then the end's own line, and no write failed; or that line was cut short by a fault.
 abbrev pub Closes : Known → List ℕ → End → ℕ → Type 0
 Closes output whole end status =
-    ((status ≡ status_of end) × Appends output.before output.after (whole ++ end_line end)) ⊎ ((status ≡ write_fault) × Cut output whole (end_line end))
+    ((status ≡ status_of end) × Appends output.before output.after (whole ++ end_line end) × Quiet output) ⊎ ((status ≡ write_fault) × Cut output whole (end_line end))
 
 -- The call came to an end, for a cause.
 abbrev pub Ends : List (List ℕ) → Known → Known → ℕ → List Entry → Type 0

@@ -77,6 +77,10 @@ pub fn top<S: Source, K: Sink>(alloc: Global, words: &[String], input: &mut S, o
     ensures write_fault { result ≡ 4 → Rose (K.faults out.old) (K.faults out.new) }
     ensures too_long { result ≡ 8 → PassesLimit limit (S.left input.old) (S.left input.new) }
 
+    // A fault of the outside is told by the status, and isn't passed over.
+    ensures write_told { (result ≡ 4) ⊎ (K.faults out.new ≡ K.faults out.old) }
+    ensures read_told { (result ≡ 3) ⊎ ((result ≡ 4) ⊎ (S.faults input.new ≡ S.faults input.old)) }
+
     // Where nothing failed, a form with its input within the limit is done, unless memory is wanting.
     ensures complete { IsForm (texts words.now) → (HasInput (texts words.now) → IsWithin limit (S.left input.old))
         → ¬ Rose (S.faults input.old) (S.faults input.new) → ¬ Rose (K.faults out.old) (K.faults out.new)

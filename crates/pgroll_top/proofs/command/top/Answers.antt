@@ -1,4 +1,4 @@
-use Rattle.pgroll_top.proofs.Causes.{usage_cause, read_cause, write_cause, long_cause, complete, complete_long, complete_usage}
+use Rattle.pgroll_top.proofs.Causes.{usage_cause, read_cause, write_cause, long_cause, complete, complete_long, complete_usage, write_told, read_told}
 use Rattle.pgroll_top.proofs.command.top.Goals as goal
 
 pub returns-clause-usage : goal.returns-clause-usage
@@ -21,3 +21,9 @@ returns-clause-complete_long g c = complete_long _ _ _ _ c.perform.ensures.histo
 
 pub returns-clause-complete_usage : goal.returns-clause-complete_usage
 returns-clause-complete_usage g c = complete_usage _ _ _ _ c.perform.ensures.history
+
+pub returns-clause-write_told : goal.returns-clause-write_told
+returns-clause-write_told g c = write_told _ _ _ _ c.perform.ensures.history
+
+pub returns-clause-read_told : goal.returns-clause-read_told
+returns-clause-read_told g c = read_told _ _ _ _ c.perform.ensures.history

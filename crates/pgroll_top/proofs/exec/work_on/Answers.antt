@@ -10,7 +10,7 @@ loop-rest-preserved-in-Continue-1 g c =
     let kept = sym c.is_passed.ensures ∙ c.if-not-is_passed.true in
     let served = c.in_ok-serve.ensures.step in
     let step = subst (λ path. Step c.loop-rest.core (Said path served.0) served.1 c.serve.new.core) c.requires.path served.3 in
-    (_, worked_more _ _ _ c.split_line.result.1.now _ _ _ served.0 served.1 _ c.split_line.ensures.lines kept served.2 step _ _ _ _ _ _ c.loop-rest.invariant.1 c.split_line.ensures.less served.4 c.in_ok-serve.ensures.later)
+    (_, worked_more _ _ _ c.split_line.result.1.now _ _ _ served.0 served.1 _ c.split_line.ensures.lines kept served.2 step _ _ _ _ _ _ c.loop-rest.invariant.1 c.split_line.ensures.less served.4)
 
 pub returns-in_err-serve-clause-works : goal.returns-in_err-serve-clause-works
 returns-in_err-serve-clause-works g c =
