@@ -4,7 +4,7 @@ ghost use Rattle.pg_io.specs.Causes.{Rose};
 ghost use Rattle.roll_core.specs.declared.model.Entry.{Entry};
 ghost use Rattle.pgroll_top.specs.declared.ending.End.TheVariants.{Usage, WantOfMemory};
 ghost use Rattle.pgroll_top.specs.Top.{IsForm, end_line, limit, texts};
-ghost use Rattle.pgroll_top.specs.Work.{IsHistory, IsFront, Follows, Begins, lines_of};
+ghost use Rattle.pgroll_top.specs.Work.{IsHistory, IsShown, Follows, Begins, lines_of};
 
 use pg_io::{MemSink, MemSource};
 use pgroll_top::top;
@@ -35,9 +35,9 @@ pub fn between(alloc: Global, words: &[String], input: &mut MemSource, out: &mut
     ensures usage { ¬ IsForm (texts words.now) → ¬ Rose out.old.faults out.new.faults
         → (result ≡ 2) × (out.new.held ≡ out.old.held ++ end_line Usage) × (input.new.left ≡ input.old.left) }
 
-    // Memory was wanting: the lines of a front of a history were written, whole, and then the line that tells it.
+    // Memory was wanting: the lines of all entries but perhaps the last were written, whole, and then the line that tells it.
     ensures wanting { result ≡ 6 → (history : List Entry) × (shown : List Entry) × IsHistory history × Begins history input.old.left
-        × IsFront shown history × (out.new.held ≡ out.old.held ++ (lines_of shown ++ end_line WantOfMemory)) }
+        × IsShown shown history × (out.new.held ≡ out.old.held ++ (lines_of shown ++ end_line WantOfMemory)) }
 
     // A longer input is told, unless memory is wanting or something failed.
     ensures long { IsForm (texts words.now) → limit < length input.old.left
