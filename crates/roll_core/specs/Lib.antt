@@ -1,6 +1,7 @@
 pub mod State
 pub mod Statement
 pub mod Step
+pub mod Laws
 pub mod Lines
 pub mod Plain
 pub mod Engine

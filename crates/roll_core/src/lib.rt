@@ -8,6 +8,7 @@
 #![tactic(auto)]
 
 mod engine;
+pub mod laws;
 mod literals;
 pub mod model;
 mod plain;
