@@ -3,7 +3,7 @@ use Rattle.std.specs.Prelude.{◌≡◌, ◌≢◌, ℕ, ◌<◌, ◌≤◌, Lis
 use Rattle.std.specs.Io.KnownBytes.{Appends, Consumes, IsAtEnd}
 use Rattle.pg_io.specs.Causes.{Rose}
 
--- What is known of a source or a sink before a call and after it: its bytes, where it tells them, and its count of faults.
+-- What is known of a source or a sink before a call and after it: its bytes, where it tells them, and its count of faults. Of one that doesn't tell its bytes, what is said of bytes below holds of any bytes, and so says nothing.
 pub record Known : Type 0 where
   pub before : Option (List ℕ)
   pub after : Option (List ℕ)
@@ -14,13 +14,17 @@ pub record Known : Type 0 where
 abbrev pub known : {A : Type 0} → (A → Option (List ℕ)) → (A → ℕ) → A → A → Known
 known told faults old new = record { before = told old; after = told new; faults_before = faults old; faults_after = faults new }
 
--- nothing was done to it
+-- its known bytes and its count of faults are as they were
 abbrev pub Untouched : Known → Type 0
 Untouched k = (k.after ≡ k.before) × (k.faults_after ≡ k.faults_before)
 
--- one more fault was counted
+-- its count of faults rose, or stands at its type's end
 abbrev pub Faulted : Known → Type 0
 Faulted k = Rose k.faults_before k.faults_after
+
+-- no fault was counted
+abbrev pub Quiet : Known → Type 0
+Quiet k = k.faults_after ≡ k.faults_before
 
 -- `whole` was written, and of `last` a front but not all of it, since a write failed
 pub record Cut (output : Known) (whole last : List ℕ) : Type 0 where
@@ -40,7 +44,7 @@ pub record ReadsWhole (old new : Option (List ℕ)) (text : List ℕ) : Type 0 w
 abbrev pub ReadsFront : Option (List ℕ) → Option (List ℕ) → Type 0
 ReadsFront old new = (front : List ℕ) × Consumes old new front
 
--- what was read begins the input, which is longer than a limit
+-- more bytes than the limit were read off the input
 abbrev pub PassesLimit : ℕ → Option (List ℕ) → Option (List ℕ) → Type 0
 PassesLimit limit old new = (front : List ℕ) × (limit < length front) × Consumes old new front
 

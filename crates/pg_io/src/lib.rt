@@ -7,7 +7,7 @@
 ghost use Rattle.std.specs.Prelude.{ℕ, List, Option};
 ghost use Rattle.std.specs.Io.{ReadsAtMost, WritesAtMost};
 ghost use Rattle.std.specs.Io.KnownBytes.{ReadConsumes, WriteAppends};
-ghost use Rattle.pg_io.specs.Causes.{HasCause, TakesSome};
+ghost use Rattle.pg_io.specs.Causes.{HasExactCause, TakesSome};
 
 mod device;
 #[cfg(test)]
@@ -46,7 +46,7 @@ pub trait Source {
     fn read(&mut self, buf: &mut [u8]) -> Result<usize, Failed>
         ensures bound { ReadsAtMost result buf.new }
         ensures bytes { ReadConsumes (left self.old) (left self.new) result buf.new }
-        ensures cause { HasCause (faults self.old) (faults self.new) result };
+        ensures cause { HasExactCause (faults self.old) (faults self.new) result };
 }
 
 /// Where bytes are written to.
@@ -62,5 +62,5 @@ pub trait Sink {
         ensures bound { WritesAtMost result bytes.now }
         ensures some { TakesSome result bytes.now }
         ensures bytes { WriteAppends (held self.old) (held self.new) result bytes.now }
-        ensures cause { HasCause (faults self.old) (faults self.new) result };
+        ensures cause { HasExactCause (faults self.old) (faults self.new) result };
 }

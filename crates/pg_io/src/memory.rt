@@ -2,7 +2,7 @@
 ghost use Rattle.std.specs.Prelude.{◌≡◌, ◌⊎◌, ◌↔◌, ℕ, ◌+◌, ◌-◌, ◌<◌, ◌≤◌, ◌++◌, List, [], length, take, drop, min, vec_len, vec_capacity, Some, IsErr, IfOk, OnOk, OnErr, Contains};
 ghost use Rattle.std.specs.Io.{ReadsAtMost, WritesAtMost};
 ghost use Rattle.std.specs.Io.KnownBytes.{ReadConsumes, WriteAppends};
-ghost use Rattle.pg_io.specs.Causes.{HasCause, TakesSome, one_more};
+ghost use Rattle.pg_io.specs.Causes.{HasExactCause, TakesSome, one_more};
 ghost use Rattle.pg_io.specs.Memory.{SourceInMemory, SinkInMemory};
 
 use crate::schedule::Schedule;
@@ -62,7 +62,7 @@ impl Source for MemSource {
     fn read(&mut self, buf: &mut [u8]) -> Result<usize, Failed>
         ensures bound { ReadsAtMost result buf.new }
         ensures bytes { ReadConsumes (Some self.old.left) (Some self.new.left) result buf.new }
-        ensures cause { HasCause self.old.faults self.new.faults result }
+        ensures cause { HasExactCause self.old.faults self.new.faults result }
 
         // Which calls fail, and what is counted.
         ensures due { IsErr result ↔ Contains self.old.failing self.old.made }
@@ -144,7 +144,7 @@ impl Sink for MemSink {
         ensures bound { WritesAtMost result bytes.now }
         ensures some { TakesSome result bytes.now }
         ensures bytes { WriteAppends (Some self.old.held) (Some self.new.held) result bytes.now }
-        ensures cause { HasCause self.old.faults self.new.faults result }
+        ensures cause { HasExactCause self.old.faults self.new.faults result }
 
         // Which calls fail, and what is counted.
         ensures due { Contains self.old.failing self.old.made → IsErr result }

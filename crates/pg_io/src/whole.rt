@@ -1,7 +1,7 @@
 //! Reading to the end, and writing whole pieces.
 ghost use Rattle.std.specs.Prelude.{◌≡◌, ◌⊎◌, ◌≤◌, [], length, IfOk, IsOk, OnOk, OnErr, IsErrOf};
 ghost use Rattle.std.specs.Io.KnownBytes.{Appends};
-ghost use Rattle.pg_io.specs.Causes.{Rose, HasCause};
+ghost use Rattle.pg_io.specs.Causes.{Rose, HasExactCause};
 ghost use Rattle.pg_io.specs.Outside.{ReadsWhole, ReadsFront, PassesLimit, IsWithin, IsBeyond, Cut, known};
 
 use crate::{Failed, Sink, Source};
@@ -38,7 +38,7 @@ impl From<AllocError> for InputFault {
     }
 }
 
-/// Reads an input to its end, at most `limit` bytes of it.
+/// Reads an input to its end, where it has at most `limit` bytes.
 ///
 /// `Failed` comes where a read failed, `TooLong` where more than `limit` bytes were there, and `NoMemory` where
 /// memory was wanting. After each of them what was read is lost: the input stands behind it.
@@ -52,6 +52,7 @@ pub fn read_whole<S: Source>(
     ensures front { OnErr result (ReadsFront (S.left input.old) (S.left input.new)) }
     ensures failed { IsErrOf result InputFault.Failed → Rose (S.faults input.old) (S.faults input.new) }
     ensures too_long { IsErrOf result InputFault.TooLong → PassesLimit limit (S.left input.old) (S.left input.new) }
+    ensures passed { IsErrOf result InputFault.Failed ⊎ (S.faults input.new ≡ S.faults input.old) }
     ensures later { S.faults input.old ≤ S.faults input.new }
 
     // Where nothing failed, a known input is read where it is within the limit, unless memory is wanting.
@@ -68,6 +69,7 @@ fn gather<S: Source>(alloc: Global, input: &mut S, limit: usize) -> Result<Vec<u
     ensures front { OnErr result (ReadsFront (S.left input.old) (S.left input.new)) }
     ensures failed { IsErrOf result InputFault.Failed → Rose (S.faults input.old) (S.faults input.new) }
     ensures too_long { IsErrOf result InputFault.TooLong → PassesLimit limit (S.left input.old) (S.left input.new) }
+    ensures passed { IsErrOf result InputFault.Failed ⊎ (S.faults input.new ≡ S.faults input.old) }
     ensures later { S.faults input.old ≤ S.faults input.new }
 {
     let mut text = Vec::new(alloc);
@@ -88,7 +90,7 @@ fn gather<S: Source>(alloc: Global, input: &mut S, limit: usize) -> Result<Vec<u
 pub fn write_whole<K: Sink>(out: &mut K, bytes: &[u8]) -> Result<(), Failed>
     ensures whole { OnOk result (Appends (K.held out.old) (K.held out.new) bytes.now) }
     ensures cut { OnErr result (Cut (known K.held K.faults out.old out.new) [] bytes.now) }
-    ensures cause { HasCause (K.faults out.old) (K.faults out.new) result }
+    ensures cause { HasExactCause (K.faults out.old) (K.faults out.new) result }
 {
     let mut written = 0;
     while written < bytes.len() {

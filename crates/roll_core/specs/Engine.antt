@@ -1,22 +1,18 @@
 -- What the engine's map of rows means, and how its calls answer.
-use Rattle.std.specs.Prelude.{◌≡◌, ◌≢◌, ℕ, ℤ, List, [], ◌∷◌, Bool, true, false, Option, Some, None, Result, Ok, Err, codes, map, slice_get}
+use Rattle.std.specs.Prelude.{◌≡◌, ◌≢◌, ℕ, ℤ, List, [], ◌∷◌, Result, Ok, Err, map, slice_get}
 use Rattle.std.specs.Option.{option_map_or}
-use Rattle.sql_base.specs.declared.shapes.Column.{Column}
 use Rattle.sql_base.specs.declared.shapes.Shape.{Shape}
-use Rattle.sql_base.specs.declared.values.Ty.{Ty}
-use Rattle.sql_base.specs.declared.values.Ty.TheVariants.{Bigint, Text}
 use Rattle.sql_base.specs.declared.values.Value.{Value}
-use Rattle.sql_base.specs.declared.values.Value.TheVariants.{Null}
 use Rattle.roll_core.specs.declared.model.Kept.{Kept}
 use Rattle.roll_core.specs.declared.model.Reply.{Reply}
 use Rattle.roll_core.specs.declared.model.Side.TheVariants.{Old}
 use Rattle.roll_core.specs.declared.model.State.{State}
-use Rattle.roll_core.specs.State.{Place}
-use Rattle.roll_core.specs.Statement.{Outcome, alone, no_memory}
+use Rattle.roll_core.specs.State.{Found, users}
+use Rattle.roll_core.specs.Statement.{Outcome, row_alone, no_memory}
 
 -- The rows of a map, as one version alone keeps them.
 abbrev pub kept_of : List (ℤ × List Value) → List Kept
-kept_of entries = map (λ entry. alone entry.0 entry.1) entries
+kept_of entries = map (λ entry. row_alone entry.0 entry.1) entries
 
 -- The state that the engine's parts mean: one version with one table, of number 1, which has the rows of the map.
 abbrev pub meaning : List ℕ → List ℕ → Shape → List (ℤ × List Value) → State
@@ -26,28 +22,13 @@ meaning version table shape entries = record {
   tables = (1, kept_of entries) ∷ [];
 }
 
--- ---- the state that a run begins with
-
-abbrev pub column : List ℕ → Ty → Column
-column name ty = record { name = name; ty = ty; nullable = false; default = Null }
-
--- users: the key id, a bigint, and name, a text. Neither may be NULL.
-abbrev pub users : Shape
-users = record { columns = column (codes "id") Bigint ∷ column (codes "name") Text ∷ []; key = 0; checks = []; uniques = [] }
-
--- The version 01_users with the one table users, which is empty.
-abbrev pub beginning : State
-beginning = meaning (codes "01_users") (codes "users") users []
-
--- ---- how a call of the engine answers
-
--- The shape of the one table.
+-- The shape of the one table. (Where there is none it is that of users, so that it is always some shape.)
 abbrev pub only_shape : State → Shape
 only_shape s = option_map_or (λ table. table.2) (slice_get s.schema.tables 0) users
 
 -- The one table, as a statement finds it.
-abbrev pub only_place : State → Place
-only_place s = record { side = Old; number = 1; shape = only_shape s }
+abbrev pub only_table : State → Found
+only_table s = record { side = Old; number = 1; shape = only_shape s }
 
 -- Ok is the reply of an accepted statement, with the state after it. Err is the reply of a refused one, with the state as it was; it may be want of memory.
 abbrev pub Answers : State → Outcome → Result Reply Reply → State → Type 0

@@ -1,8 +1,9 @@
 -- The lines that tell a history.
-use Rattle.std.specs.Prelude.{ℕ, List, [], ◌∷◌, ◌++◌, ◌==◌, Option, Some, None, codes, decimal, length, slice_index_or, unwrap_or, if◌then◌else◌, Bool, true, false}
+use Rattle.std.specs.Prelude.{ℕ, List, [], ◌∷◌, ◌++◌, ◌==◌, Option, Some, None, codes, decimal, length, map, slice_index_or, unwrap_or, if◌then◌else◌, Bool, true, false}
 use Rattle.std.specs.Fmt.{signed_decimal}
-use Rattle.std.specs.List.{flat_map}
+use Rattle.std.specs.List.{flat_map, join_with_byte}
 use Rattle.std.specs.Option.{option_map_or}
+use Rattle.std.specs.Str.{byte}
 use Rattle.sql_base.specs.declared.codes.Code.{Code}
 use Rattle.sql_base.specs.declared.codes.Code.TheVariants.{C22003, C22012, C22P02, C23502, C23505, C23514, C0A000, C42601, C42701, C42703, C42804, C42P01, C53200, C54000}
 use Rattle.sql_base.specs.declared.values.Value.{Value}
@@ -28,15 +29,16 @@ code_text C42P01 = codes "42P01"
 code_text C53200 = codes "53200"
 code_text C54000 = codes "54000"
 
--- A byte of a text: a backslash, a bar, a newline and a carriage return are written with a backslash in front.
+-- A byte of a text. A backslash and a bar get a backslash in front; a newline is written \n, and a carriage return \r.
 abbrev pub escaped_byte : ℕ → List ℕ
 escaped_byte b =
-    if b == 92 then codes "\\\\"
-    else (if b == 124 then codes "\\|"
-    else (if b == 10 then codes "\\n"
-    else (if b == 13 then codes "\\r"
+    if b == byte "\\" then codes "\\\\"
+    else (if b == byte "|" then codes "\\|"
+    else (if b == byte "\n" then codes "\\n"
+    else (if b == byte "\r" then codes "\\r"
     else b ∷ [])))
 
+-- A value: NULL is \N, a number is decimal, and a text is written byte by byte.
 abbrev pub value_text : Value → List ℕ
 value_text Null = codes "\\N"
 value_text (Int n) = signed_decimal n
@@ -44,16 +46,11 @@ value_text (Text text) = flat_map escaped_byte text
 value_text (Truth true) = codes "true"
 value_text (Truth false) = codes "false"
 
--- The values of a row, with a bar between them.
-abbrev pub values_text : List Value → List ℕ
-values_text [] = []
-values_text (value ∷ values) = value_text value ++ flat_map (λ next. codes "|" ++ value_text next) values
-
--- A row of a reply: two blanks, its values, and a newline.
+-- A row of a reply: two spaces, its values with a bar between them, and a newline.
 abbrev pub row_text : List Value → List ℕ
-row_text row = codes "  " ++ (values_text row ++ codes "\n")
+row_text row = codes "  " ++ (join_with_byte (byte "|") (map value_text row) ++ codes "\n")
 
--- What stands behind the number and the actor. A refused statement names what there is to name, and the row's key where it is known.
+-- What stands behind the number and the actor. A refused statement names what there is to name, and the row's key where it is known; for what isn't there it has a dash.
 abbrev pub reply_text : Reply → List ℕ
 reply_text (Insert n) = codes "INSERT 0 " ++ (decimal n ++ codes "\n")
 reply_text (Select rows) = codes "SELECT " ++ (decimal (length rows) ++ (codes "\n" ++ flat_map row_text rows))
@@ -64,7 +61,7 @@ reply_text (Error code name key) =
 abbrev pub numbered : ℕ → List ℕ → Reply → List ℕ
 numbered number name reply = decimal number ++ (codes " " ++ (name ++ (codes " " ++ reply_text reply)))
 
--- The line of an entry and those of its rows. The name of actor i is the i-th of these names, from 0.
+-- The line of an entry and those of its rows. The name of actor i is the i-th of these names, from 0, and nothing where there is none.
 abbrev pub line_of : List (List ℕ) → Entry → List ℕ
 line_of names entry = numbered entry.number (slice_index_or names entry.actor []) entry.reply
 

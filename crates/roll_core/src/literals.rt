@@ -54,14 +54,14 @@ fn literals(
     Ok(Some(values))
 }
 
-/// The one row that an INSERT gives, for all columns in their order.
-pub fn new_row(
+/// The values of the one row of an INSERT that names all columns in their order.
+pub fn new_values(
     alloc: Global,
     shape: &Shape,
     names: &[Name],
     rows: &[List<Expr>],
 ) -> Result<Option<List<Value>>, NoMemory>
-    ensures { IfOk result (λ row. row ≡ spec.new_row shape.now names.now rows.now) }
+    ensures { IfOk result (λ values. values ≡ spec.new_values shape.now names.now rows.now) }
 {
     match rows {
         [row] if are_names_of(shape.columns.as_slice(), names) => {
@@ -71,7 +71,7 @@ pub fn new_row(
     }
 }
 
-/// The integer in the key's place of a row.
+/// The integer at the key's place of a row, or 0 where none stands there.
 pub fn key_of(shape: &Shape, row: &[Value]) -> i64
     ensures { result ≡ spec.key_of shape.now row.now }
 {

@@ -1,4 +1,4 @@
-//! The machine as plain data: states, events, replies, and a plain slow step.
+//! The machine as plain data: its states, its events and its replies.
 ghost use Rattle.std.specs.Prelude.{◌≡◌};
 
 use crate::refusals::no_memory;
@@ -57,7 +57,7 @@ pub enum Event {
 pub enum Reply {
     /// So many rows were written.
     Insert(u32),
-    /// These rows, each with its items.
+    /// These rows, each with the values that were asked for, in order.
     Select(List<List<Value>>),
     /// The statement is refused, with its code, with what the code is about (a table, a column, a constraint or
     /// a limit), and with the key of the row where it was found. Nothing changed.
@@ -68,7 +68,8 @@ pub enum Reply {
     },
 }
 
-/// An event with its reply. Entries are numbered from 1, and the actor is the place of its name in a list of names.
+/// An event with its reply. Entries are numbered from 1, and the actor is the place, counted from 0, of its name in
+/// a list of names.
 #[derive(Drop)]
 pub struct Entry {
     pub number: u32,

@@ -24,7 +24,7 @@ fn named(alloc: Global, bytes: &[u8]) -> Result<Option<Name>, NoMemory>
     Ok(Some(Name::from_slice(alloc, bytes)?))
 }
 
-/// The statement reads as nothing that is run.
+/// The line reads as no statement, or as one that isn't run yet.
 pub fn syntax() -> Reply
     ensures { result ≡ spec.syntax }
 {
@@ -50,8 +50,8 @@ pub fn no_table(alloc: Global, table: &Name) -> Result<Reply, NoMemory>
 }
 
 /// The row of this key passes the limit on weight.
-pub fn heavy(alloc: Global, key: i64) -> Result<Reply, NoMemory>
-    ensures { IfOk result (λ reply. reply ≡ spec.heavy key) }
+pub fn heavy_row(alloc: Global, key: i64) -> Result<Reply, NoMemory>
+    ensures { IfOk result (λ reply. reply ≡ spec.heavy_row key) }
 {
     Ok(Reply::Error {
         code: Code::C54000,
@@ -61,8 +61,8 @@ pub fn heavy(alloc: Global, key: i64) -> Result<Reply, NoMemory>
 }
 
 /// The table has a row of this key already.
-pub fn taken(alloc: Global, table: &Name, key: i64) -> Result<Reply, NoMemory>
-    ensures { IfOk result (λ reply. reply ≡ spec.taken table.now key) }
+pub fn taken_key(alloc: Global, table: &Name, key: i64) -> Result<Reply, NoMemory>
+    ensures { IfOk result (λ reply. reply ≡ spec.taken_key table.now key) }
 {
     let mut constraint = Vec::from_slice(alloc, table.as_slice())?;
     constraint.extend_from_slice(b"_pkey")?;
@@ -73,9 +73,9 @@ pub fn taken(alloc: Global, table: &Name, key: i64) -> Result<Reply, NoMemory>
     })
 }
 
-/// There are as many rows as there may be.
-pub fn full(alloc: Global) -> Result<Reply, NoMemory>
-    ensures { IfOk result (λ reply. reply ≡ spec.full) }
+/// There would be more rows than there may be.
+pub fn too_many_rows(alloc: Global) -> Result<Reply, NoMemory>
+    ensures { IfOk result (λ reply. reply ≡ spec.too_many_rows) }
 {
     Ok(Reply::Error {
         code: Code::C54000,
@@ -85,8 +85,8 @@ pub fn full(alloc: Global) -> Result<Reply, NoMemory>
 }
 
 /// More rows match than one reply may have.
-pub fn long(alloc: Global) -> Result<Reply, NoMemory>
-    ensures { IfOk result (λ reply. reply ≡ spec.long) }
+pub fn long_reply(alloc: Global) -> Result<Reply, NoMemory>
+    ensures { IfOk result (λ reply. reply ≡ spec.long_reply) }
 {
     Ok(Reply::Error {
         code: Code::C54000,

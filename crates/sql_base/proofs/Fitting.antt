@@ -1,5 +1,5 @@
 -- In a row that fits, the value of a column has the column's type.
-use Rattle.std.proofs.Common.{◌≡◌, ℕ, ◌+◌, List, [], ◌∷◌, Bool, true, false, ◌&&◌, Option, Some, None, if◌then◌else◌, refl, arith}
+use Rattle.std.proofs.Common.{◌≡◌, suc, ◌≢◌, ap, length, ℕ, ◌+◌, List, [], ◌∷◌, Bool, true, false, ◌&&◌, Option, Some, None, if◌then◌else◌, refl, arith}
 use Rattle.std.specs.Prelude.{find, option_map}
 use Rattle.std.specs.List.{position}
 use Rattle.std.specs.Str.{bytes_eq}
@@ -8,8 +8,8 @@ use Rattle.sql_base.specs.declared.values.Value.{Value}
 use Rattle.sql_base.specs.declared.shapes.Column.{Column}
 use Rattle.sql_base.specs.Eval.{value_at}
 use Rattle.sql_base.specs.Typing.{column_type}
-use Rattle.sql_base.specs.Sound.{has_type, Suits}
-use Rattle.sql_base.specs.Shape.{fits_columns}
+use Rattle.sql_base.specs.Shape.{has_type, fits_columns}
+use Rattle.sql_base.specs.Laws.{Suits}
 
 position-cons : (p : Column → Bool) (c : Column) (cs : List Column) → position p (c ∷ cs) ≡ (if p c then Some 0 else option_map (λ i. i + 1) (position p cs))
 position-cons p c cs = grind (arith, common_steps)
@@ -33,3 +33,13 @@ fits_suits name (c ∷ cs) (v ∷ vs) h =
       | true ↦ parts.0
       | false ↦ rw (value-next v vs (position (λ d. bytes_eq d.name name) cs)) (fits_suits name cs vs parts.1)
     ])
+
+pub different_lengths : (cs : List Column) (vs : List Value) → length cs ≢ length vs → fits_columns cs vs ≡ false
+different_lengths [] [] h = absurd (h refl)
+different_lengths [] (v ∷ vs) h = refl
+different_lengths (c ∷ cs) [] h = refl
+different_lengths (c ∷ cs) (v ∷ vs) h = rw (different_lengths cs vs (λ e. h (ap suc e))) (and_false (has_type (Some c.ty) v))
+  where
+    and_false : (b : Bool) → (b && false) ≡ false
+    and_false true = refl
+    and_false false = refl

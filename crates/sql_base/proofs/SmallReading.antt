@@ -26,6 +26,7 @@ all_sound (token ∷ tokens) more text rest h w =
 
 -- ---- a number and a text
 
+-- the tokens behind the list of columns
 abbrev values : ℤ → List ℕ → List Token
 values n t = key (codes "VALUES") ∷ sign 40 ∷ number n ∷ sign 44 ∷ quoted t ∷ sign 41 ∷ []
 

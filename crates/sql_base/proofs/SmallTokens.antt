@@ -121,8 +121,9 @@ name_sound_by name text rest (Some inner) e h =
     option_and_then_some (behind 34) (behind_all name inner) rest h (λ x all one.
     inr (behind_sound 34 text inner e ∙ ap (λ z. 34 ∷ z) (behind_all_sound name inner x all ∙ ap (λ z. name ++ z) (behind_sound 34 x rest one))))
 
--- ---- tokens of one spelling
+-- ---- given tokens
 
+-- tokens that `after` finds
 abbrev pub is_fixed : Token → Bool
 is_fixed (key w) = true
 is_fixed (identifier []) = false

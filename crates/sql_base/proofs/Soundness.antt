@@ -1,140 +1,85 @@
--- What a typed expression comes to is of its type.
-use Rattle.std.proofs.Common.{◌≡◌, ℤ, Bool, true, false, Option, Some, None, Ok, Err, if◌then◌else◌, refl, arith, ◌+ℤ◌, ◌-ℤ◌, ◌*ℤ◌, pos, negsuc, zero, suc, length, ◌++◌, int_div, int_rem, nat_le, neg_ℤ}
-use Rattle.std.specs.declared.cmp.Ordering.{Ordering}
-use Rattle.std.specs.declared.cmp.Ordering.TheVariants.{Less, Equal, Greater}
+-- What a typed expression comes to is of its type: by induction over the tree.
+use Rattle.std.proofs.Common.{◌≡◌, List, [], ◌∷◌, true, Option, None, refl, subst, map}
 use Rattle.sql_base.specs.declared.values.Value.{Value}
 use Rattle.sql_base.specs.declared.values.Value.TheVariants.{Null, Int, Text, Bool as Truth}
 use Rattle.sql_base.specs.declared.values.Ty.{Ty}
-use Rattle.sql_base.specs.declared.values.Ty.TheVariants as ty
-use Rattle.sql_base.specs.declared.exprs.BinOp.{BinOp}
-use Rattle.sql_base.specs.declared.exprs.BinOp.TheVariants as op
-use Rattle.sql_base.specs.declared.faults.EvalFault.TheVariants as fault
-use Rattle.sql_base.specs.declared.faults.TypeFault.{TypeFault}
-use Rattle.sql_base.specs.declared.faults.TypeFault.TheVariants.{Mismatch}
-use Rattle.sql_base.specs.Outcome.{and_then}
-use Rattle.sql_base.specs.Value.{Outcome, whole, fits_i64, divided, negated, inverted, joined, accepts, value_cmp, concat, computed, arithmetic, settles, applied, max_text}
-use Rattle.sql_base.specs.Typing.{Typed, fits, agreed, form, form2, binary_type}
-use Rattle.sql_base.specs.Eval.{binary}
-use Rattle.sql_base.specs.Sound.{has_type, Suits, Sound}
+use Rattle.sql_base.specs.declared.exprs.Expr.{Expr}
+use Rattle.sql_base.specs.declared.exprs.Arm.{Arm}
+use Rattle.sql_base.specs.declared.exprs.Expr.TheOpen.{Expr-F, Arm-F}
+use Rattle.sql_base.specs.declared.exprs.Expr.TheViews.{roll-Expr, roll-Arm}
+use Rattle.sql_base.specs.declared.exprs.Expr.TheFolds.{ind-Expr, fold-roll-Expr, fold-roll-Arm, map-Expr, map-Arm}
+use Rattle.sql_base.specs.declared.exprs.Func.TheVariants as func
+use Rattle.sql_base.specs.declared.shapes.Shape.{Shape}
+use Rattle.sql_base.specs.Outcome.{and_then, every}
+use Rattle.sql_base.specs.Value.{Outcome}
+use Rattle.sql_base.specs.Typing.{Typed, TypedArm, one_type, case_type, type_of, types_of_arm, type_step, type_of_value}
+use Rattle.sql_base.specs.Typing as typed
+use Rattle.sql_base.specs.Eval as valued
+use Rattle.sql_base.specs.Eval.{case, coalesce, eval, eval_arm, eval_step}
+use Rattle.sql_base.specs.Shape.{has_type}
+use Rattle.sql_base.specs.Laws.{Sound, Holds, IsSound}
+use Rattle.sql_base.proofs.Operators.{sound_not, sound_neg, sound_is_null, sound_binary}
+use Rattle.sql_base.proofs.Branches.{branch_of, coalesce_step, case_step, sound_arm, sound_else}
+use Rattle.sql_base.proofs.Calls.{AllAgree, every_step, sound_all, sound_cast_of}
 
-pub sound_fault : (f : TypeFault) (r : Outcome) → Sound (Err f) r
-sound_fault f (Ok v) = tt
-sound_fault f (Err e) = tt
+sound_value : (v : Value) → has_type (type_of_value v) v ≡ true
+sound_value Null = refl
+sound_value (Int n) = refl
+sound_value (Text t) = refl
+sound_value (Truth b) = refl
 
-pub sound_form : (wanted gives : Ty) (t : Option Ty) (r : Outcome) → Sound (Ok (Some gives)) r → Sound (form wanted gives t) r
-sound_form wanted gives t (Err e) h = tt
-sound_form wanted gives t (Ok v) h = elim (fits wanted t) as (λ b. Suits (if b then Ok (Some gives) else Err Mismatch) v) [ true ↦ h | false ↦ tt ]
+module _ (shape : Shape) (row : List Value) (holds : Holds shape row) where
+  abbrev P : Expr → Type 0
+  P e = Sound (type_of shape e) (eval shape row e)
 
-pub sound_whole : (z : ℤ) → Sound (Ok (Some ty.Bigint)) (whole z)
-sound_whole z = elim (fits_i64 z) as (λ b. Sound (Ok (Some ty.Bigint)) (if b then Ok (Int z) else Err fault.Range)) [ true ↦ refl | false ↦ tt ]
+  abbrev Q : Arm → Type 0
+  Q a = Sound (branch_of (types_of_arm shape a)) (eval_arm shape row a).1
 
-pub sound_negated : (v : Value) → Sound (Ok (Some ty.Bigint)) (negated v)
-sound_negated (Int n) = sound_whole (neg_ℤ n)
-sound_negated Null = refl
-sound_negated (Text t) = refl
-sound_negated (Truth b) = refl
+  coalesced : (ys : List ((e : Expr) × P e)) → (so_far : Option Ty) → Sound (and_then (every (map (type_of shape) (map (λ e. e.0) ys))) (one_type so_far)) (coalesce (map (eval shape row) (map (λ e. e.0) ys)))
+  coalesced [] so_far = refl
+  coalesced (y ∷ ys) so_far =
+      coalesce_step (type_of shape y.0) (every (map (type_of shape) (map (λ e. e.0) ys))) (eval shape row y.0) (coalesce (map (eval shape row) (map (λ e. e.0) ys))) y.1 (coalesced ys) so_far
 
-sound_inverted : (v : Value) → has_type (Some ty.Boolean) (inverted v) ≡ true
-sound_inverted (Int n) = refl
-sound_inverted Null = refl
-sound_inverted (Text t) = refl
-sound_inverted (Truth b) = refl
+  chosen : (t : Typed) (r : Outcome) → Sound t r → (ys : List ((a : Arm) × Q a)) → (so_far : Option Ty) → Sound (and_then (every (map (types_of_arm shape) (map (λ a. a.0) ys))) (λ ts. and_then t (case_type so_far ts))) (case (map (eval_arm shape row) (map (λ a. a.0) ys)) r)
+  chosen t r h [] so_far = sound_else so_far t r h
+  chosen t r h (y ∷ ys) so_far =
+      case_step (types_of_arm shape y.0) (every (map (types_of_arm shape) (map (λ a. a.0) ys))) t (eval_arm shape row y.0).0 (eval_arm shape row y.0).1 (case (map (eval_arm shape row) (map (λ a. a.0) ys)) r) y.1 (chosen t r h ys) so_far
 
-pub sound_not : (t : Typed) (r : Outcome) → Sound (and_then t (form ty.Boolean ty.Boolean)) (and_then r (λ x. Ok (inverted x)))
-sound_not (Err f) r = sound_fault f _
-sound_not (Ok t) (Err e) = tt
-sound_not (Ok t) (Ok v) = sound_form ty.Boolean ty.Boolean t (Ok (inverted v)) (sound_inverted v)
+  everything : (ys : List ((e : Expr) × P e)) → AllAgree (every (map (type_of shape) (map (λ e. e.0) ys))) (every (map (eval shape row) (map (λ e. e.0) ys)))
+  everything [] = tt
+  everything (y ∷ ys) =
+      every_step (type_of shape y.0) (eval shape row y.0) (every (map (type_of shape) (map (λ e. e.0) ys))) (every (map (eval shape row) (map (λ e. e.0) ys))) y.1 (everything ys)
 
-sound_joined : (ruling : Bool) (x y : Value) → has_type (Some ty.Boolean) (joined ruling x y) ≡ true
-sound_joined ruling x y = grind arith
+  at : (x : Expr-F Expr Arm) → Sound (type_step shape (map-Expr Expr Arm Typed TypedArm (type_of shape) (types_of_arm shape) x)) (eval_step shape row (map-Expr Expr Arm Outcome (Outcome × Outcome) (eval shape row) (eval_arm shape row) x)) → P (roll-Expr x)
+  unfolding eval eval_arm type_of types_of_arm
+  at x h =
+      let types = fold-roll-Expr Typed TypedArm (type_step shape) typed.arm_step x in
+      let values = fold-roll-Expr Outcome (Outcome × Outcome) (eval_step shape row) valued.arm_step x in
+      rw (types, values) h
 
-sound_divided : (by : ℤ → ℤ → ℤ) (m n : ℤ) → Sound (Ok (Some ty.Bigint)) (divided by m n)
-sound_divided by m (pos zero) = tt
-sound_divided by m (pos (suc n)) = sound_whole (by m (pos (suc n)))
-sound_divided by m (negsuc n) = sound_whole (by m (negsuc n))
+  level : (y : Expr-F ((e : Expr) × P e) ((a : Arm) × Q a)) → P (roll-Expr (map-Expr ((e : Expr) × P e) ((a : Arm) × Q a) Expr Arm (λ e. e.0) (λ a. a.0) y))
+  level (Expr-F.Lit v) = at (Expr-F.Lit v) (sound_value v)
+  level (Expr-F.Col name) = at (Expr-F.Col name) (holds.columns name)
+  level (Expr-F.Not a) = at (Expr-F.Not a.0) (sound_not (type_of shape a.0) (eval shape row a.0))
+  level (Expr-F.Neg a) = at (Expr-F.Neg a.0) (sound_neg (type_of shape a.0) (eval shape row a.0))
+  level (Expr-F.IsNull a) = at (Expr-F.IsNull a.0) (sound_is_null (type_of shape a.0) (eval shape row a.0))
+  level (Expr-F.Bin op a b) = at (Expr-F.Bin op a.0 b.0) (sound_binary op (type_of shape a.0) (type_of shape b.0) (eval shape row a.0) (eval shape row b.0))
+  level (Expr-F.Cast a to) = at (Expr-F.Cast a.0 to) (sound_cast_of (type_of shape a.0) (eval shape row a.0) to)
+  level (Expr-F.Case arms other) = at (Expr-F.Case (map (λ a. a.0) arms) other.0) (chosen (type_of shape other.0) (eval shape row other.0) other.1 arms None)
+  level (Expr-F.Call func.Coalesce args) = at (Expr-F.Call func.Coalesce (map (λ e. e.0) args)) (coalesced args None)
+  level (Expr-F.Call func.Nullif args) = at (Expr-F.Call func.Nullif (map (λ e. e.0) args)) (sound_all func.Nullif (every (map (type_of shape) (map (λ e. e.0) args))) (every (map (eval shape row) (map (λ e. e.0) args))) (everything args))
+  level (Expr-F.Call func.Upper args) = at (Expr-F.Call func.Upper (map (λ e. e.0) args)) (sound_all func.Upper (every (map (type_of shape) (map (λ e. e.0) args))) (every (map (eval shape row) (map (λ e. e.0) args))) (everything args))
+  level (Expr-F.Call func.Lower args) = at (Expr-F.Call func.Lower (map (λ e. e.0) args)) (sound_all func.Lower (every (map (type_of shape) (map (λ e. e.0) args))) (every (map (eval shape row) (map (λ e. e.0) args))) (everything args))
+  level (Expr-F.Call func.Trim args) = at (Expr-F.Call func.Trim (map (λ e. e.0) args)) (sound_all func.Trim (every (map (type_of shape) (map (λ e. e.0) args))) (every (map (eval shape row) (map (λ e. e.0) args))) (everything args))
+  level (Expr-F.Call func.Length args) = at (Expr-F.Call func.Length (map (λ e. e.0) args)) (sound_all func.Length (every (map (type_of shape) (map (λ e. e.0) args))) (every (map (eval shape row) (map (λ e. e.0) args))) (everything args))
 
-sound_computed : (o : BinOp) (m n : ℤ) → Sound (Ok (Some ty.Bigint)) (computed o m n)
-sound_computed op.Add m n = sound_whole (m +ℤ n)
-sound_computed op.Sub m n = sound_whole (m -ℤ n)
-sound_computed op.Mul m n = sound_whole (m *ℤ n)
-sound_computed op.Div m n = sound_divided int_div m n
-sound_computed op.Rem m n = sound_divided int_rem m n
-sound_computed _ m n = refl
+  arm_level : (y : Arm-F ((e : Expr) × P e) ((a : Arm) × Q a)) → Q (roll-Arm (map-Arm ((e : Expr) × P e) ((a : Arm) × Q a) Expr Arm (λ e. e.0) (λ a. a.0) y))
+  unfolding eval eval_arm type_of types_of_arm
+  arm_level y =
+      let types = fold-roll-Arm Typed TypedArm (type_step shape) typed.arm_step (map-Arm ((e : Expr) × P e) ((a : Arm) × Q a) Expr Arm (λ e. e.0) (λ a. a.0) y) in
+      let values = fold-roll-Arm Outcome (Outcome × Outcome) (eval_step shape row) valued.arm_step (map-Arm ((e : Expr) × P e) ((a : Arm) × Q a) Expr Arm (λ e. e.0) (λ a. a.0) y) in
+      rw (types, values) (sound_arm (type_of shape y.when.0) (type_of shape y.gives.0) (eval shape row y.gives.0) y.gives.1)
 
-sound_arithmetic : (o : BinOp) (x y : Value) → Sound (Ok (Some ty.Bigint)) (arithmetic o x y)
-sound_arithmetic o (Int m) (Int n) = sound_computed o m n
-sound_arithmetic o (Int m) Null = refl
-sound_arithmetic o (Int m) (Text t) = refl
-sound_arithmetic o (Int m) (Truth b) = refl
-sound_arithmetic o Null y = refl
-sound_arithmetic o (Text t) y = refl
-sound_arithmetic o (Truth b) y = refl
-
-sound_concat : (x y : Value) → Sound (Ok (Some ty.Text)) (concat x y)
-sound_concat (Text s) (Text t) = elim (nat_le (length (s ++ t)) max_text) as (λ b. Sound (Ok (Some ty.Text)) (if b then Ok (Text (s ++ t)) else Err fault.TooLong)) [ true ↦ refl | false ↦ tt ]
-sound_concat (Text s) Null = refl
-sound_concat (Text s) (Int n) = refl
-sound_concat (Text s) (Truth b) = refl
-sound_concat Null y = refl
-sound_concat (Int n) y = refl
-sound_concat (Truth b) y = refl
-
-sound_accepts : (less equal greater : Bool) (r : Option Ordering) → has_type (Some ty.Boolean) (accepts less equal greater r) ≡ true
-sound_accepts less equal greater None = refl
-sound_accepts less equal greater (Some Less) = refl
-sound_accepts less equal greater (Some Equal) = refl
-sound_accepts less equal greater (Some Greater) = refl
-
-sound_form2 : (wanted gives : Ty) (t u : Option Ty) (r : Outcome) → Sound (Ok (Some gives)) r → Sound (form2 wanted gives t u) r
-sound_form2 wanted gives t u r h =
-    elim (form wanted gives t) as (λ w. Sound (and_then w (λ _. form wanted gives u)) r) [ Ok x ↦ sound_form wanted gives u r h | Err f ↦ sound_fault f r ]
-
-sound_agreed : (t u : Option Ty) (r : Outcome) → Sound (Ok (Some ty.Boolean)) r → Sound (and_then (agreed t u) (λ _. Ok (Some ty.Boolean))) r
-sound_agreed t u r h = elim (agreed t u) as (λ w. Sound (and_then w (λ _. Ok (Some ty.Boolean))) r) [ Ok x ↦ h | Err f ↦ sound_fault f r ]
-
-sound_applied : (o : BinOp) (t u : Option Ty) (x y : Value) → Sound (binary_type o t u) (applied o x y)
-sound_applied op.Or t u x y = sound_form2 ty.Boolean ty.Boolean t u (Ok (joined true x y)) (sound_joined true x y)
-sound_applied op.And t u x y = sound_form2 ty.Boolean ty.Boolean t u (Ok (joined false x y)) (sound_joined false x y)
-sound_applied op.Eq t u x y = sound_agreed t u (Ok (accepts false true false (value_cmp x y))) (sound_accepts false true false (value_cmp x y))
-sound_applied op.Ne t u x y = sound_agreed t u (Ok (accepts true false true (value_cmp x y))) (sound_accepts true false true (value_cmp x y))
-sound_applied op.Lt t u x y = sound_agreed t u (Ok (accepts true false false (value_cmp x y))) (sound_accepts true false false (value_cmp x y))
-sound_applied op.Le t u x y = sound_agreed t u (Ok (accepts true true false (value_cmp x y))) (sound_accepts true true false (value_cmp x y))
-sound_applied op.Gt t u x y = sound_agreed t u (Ok (accepts false false true (value_cmp x y))) (sound_accepts false false true (value_cmp x y))
-sound_applied op.Ge t u x y = sound_agreed t u (Ok (accepts false true true (value_cmp x y))) (sound_accepts false true true (value_cmp x y))
-sound_applied op.Concat t u x y = sound_form2 ty.Text ty.Text t u (concat x y) (sound_concat x y)
-sound_applied op.Add t u x y = sound_form2 ty.Bigint ty.Bigint t u (arithmetic op.Add x y) (sound_arithmetic op.Add x y)
-sound_applied op.Sub t u x y = sound_form2 ty.Bigint ty.Bigint t u (arithmetic op.Sub x y) (sound_arithmetic op.Sub x y)
-sound_applied op.Mul t u x y = sound_form2 ty.Bigint ty.Bigint t u (arithmetic op.Mul x y) (sound_arithmetic op.Mul x y)
-sound_applied op.Div t u x y = sound_form2 ty.Bigint ty.Bigint t u (arithmetic op.Div x y) (sound_arithmetic op.Div x y)
-sound_applied op.Rem t u x y = sound_form2 ty.Bigint ty.Bigint t u (arithmetic op.Rem x y) (sound_arithmetic op.Rem x y)
-
--- The left operand that decides is a truth.
-settled : (o : BinOp) (t u : Option Ty) (x : Value) → settles o x ≡ true → Sound (binary_type o t u) (Ok x)
-settled op.Or t u x h = sound_form2 ty.Boolean ty.Boolean t u (Ok x) (grind (arith, h))
-settled op.And t u x h = sound_form2 ty.Boolean ty.Boolean t u (Ok x) (grind (arith, h))
-settled op.Eq t u x h = cc
-settled op.Ne t u x h = cc
-settled op.Lt t u x h = cc
-settled op.Le t u x h = cc
-settled op.Gt t u x h = cc
-settled op.Ge t u x h = cc
-settled op.Concat t u x h = cc
-settled op.Add t u x h = cc
-settled op.Sub t u x h = cc
-settled op.Mul t u x h = cc
-settled op.Div t u x h = cc
-settled op.Rem t u x h = cc
-
-pub sound_binary : (o : BinOp) (t u : Typed) (r s : Outcome) → Sound (and_then t (λ x. and_then u (binary_type o x))) (binary o r s)
-sound_binary o (Err f) u r s = sound_fault f (binary o r s)
-sound_binary o (Ok t) (Err f) r s = sound_fault f (binary o r s)
-sound_binary o (Ok t) (Ok u) (Err e) s = tt
-sound_binary o (Ok t) (Ok u) (Ok x) s = by_settling (settles o x) refl
-  where
-    right : (s : Outcome) → Sound (binary_type o t u) (and_then s (applied o x))
-    right (Err e) = tt
-    right (Ok y) = sound_applied o t u x y
-
-    by_settling : (b : Bool) → settles o x ≡ b → Sound (binary_type o t u) (if b then Ok x else and_then s (applied o x))
-    by_settling true h = settled o t u x h
-    by_settling false h = right s
+pub sound : IsSound
+sound shape row e holds =
+    ind-Expr (P shape row holds) (Q shape row holds) (λ x y is. subst (λ z. P shape row holds (roll-Expr z)) is (level shape row holds y)) (λ x y is. subst (λ z. Q shape row holds (roll-Arm z)) is (arm_level shape row holds y)) e

@@ -1,4 +1,5 @@
 -- Texts as other values, and other values as texts.
+-- PostgreSQL manual, 4.2.9 Type Casts and 9.4 String Functions and Operators; which texts a cast takes is our own.
 use Rattle.std.specs.Prelude.{ℕ, ◌+◌, ◌-◌, ◌*◌, ℤ, pos, neg_ℤ, Bool, true, false, ◌==◌, reverse, List, [], ◌∷◌, map, codes, length, Option, Some, None, Ok, Err, if◌then◌else◌}
 use Rattle.std.specs.Char.{is_ascii_digit, to_ascii_lowercase, to_ascii_uppercase}
 use Rattle.std.specs.Fmt.{signed_decimal}
@@ -10,7 +11,7 @@ use Rattle.sql_base.specs.declared.values.Ty.TheVariants as ty
 use Rattle.sql_base.specs.declared.exprs.Func.{Func}
 use Rattle.sql_base.specs.declared.exprs.Func.TheVariants as func
 use Rattle.sql_base.specs.declared.faults.EvalFault.TheVariants as fault
-use Rattle.sql_base.specs.Value.{Outcome, whole, value_cmp, accepts, is_truth}
+use Rattle.sql_base.specs.Value.{Outcome, whole, alike}
 
 abbrev pub trim_front : List ℕ → List ℕ
 trim_front [] = []
@@ -19,13 +20,13 @@ trim_front (b ∷ bs) = if b == 32 then trim_front bs else b ∷ bs
 abbrev pub trim_back : List ℕ → List ℕ
 trim_back bs = reverse (trim_front (reverse bs))
 
--- without spaces at both ends
+-- without spaces, which are the byte 32 and no other blank, at both ends
 abbrev pub trimmed : List ℕ → List ℕ
 trimmed bs = trim_back (trim_front bs)
 
--- ---- text to bigint
+-- ---- text to bigint: spaces, an optional sign, one or more digits, spaces
 
--- the number that the digits continue, if these are digits
+-- the number that n begins and these digits continue, if they are digits
 abbrev pub read_digits : ℕ → List ℕ → Option ℕ
 read_digits n [] = Some n
 read_digits n (b ∷ bs) = if is_ascii_digit b then read_digits (10 * n + (b - 48)) bs else None
@@ -34,6 +35,7 @@ abbrev pub with_sign : Bool → ℕ → ℤ
 with_sign true n = neg_ℤ (pos n)
 with_sign false n = pos n
 
+-- a text that is no number is 22P02, and a number out of range 22003
 abbrev pub signed : Bool → Option ℕ → Outcome
 signed negative None = Err fault.BadText
 signed negative (Some n) = whole (with_sign negative n)
@@ -47,12 +49,15 @@ abbrev pub read_bigint : List ℕ → Outcome
 read_bigint [] = Err fault.BadText
 read_bigint (b ∷ bs) = if b == 45 then read_number true bs else (if b == 43 then read_number false bs else read_number false (b ∷ bs))
 
--- ---- text to boolean
+-- ---- text to boolean: `t`, `true`, `f`, `false`, in letters of either case; fewer than 8.6 Boolean Type has
 
 abbrev pub read_boolean : List ℕ → Outcome
 read_boolean bs =
     if bytes_eq bs (codes "t") then Ok (Truth true) else (if bytes_eq bs (codes "true") then Ok (Truth true) else (if bytes_eq bs (codes "f") then Ok (Truth false) else (if bytes_eq bs (codes "false") then Ok (Truth false) else Err fault.BadText)))
 
+-- ---- all casts
+
+-- A bigint as a text is decimal without leading zeros, with `-` in front of a negative number. NULL stays NULL.
 abbrev pub cast : Value → Ty → Outcome
 cast (Int n) ty.Bigint = Ok (Int n)
 cast (Int n) ty.Text = Ok (Text (signed_decimal n))
@@ -65,10 +70,11 @@ cast _ to = Ok Null
 
 -- ---- functions
 
--- NULL where the two are equal
+-- PostgreSQL manual, 9.18.3 NULLIF: NULL where `a = b` is true, else a.
 abbrev pub nullif : Value → Value → Value
-nullif a b = if is_truth true (accepts false true false (value_cmp a b)) then Null else a
+nullif a b = if alike a b then Null else a
 
+-- `upper` and `lower` change ASCII letters alone (our own); `length` counts code points.
 abbrev pub text_call : Func → List ℕ → Outcome
 text_call func.Upper t = Ok (Text (map to_ascii_uppercase t))
 text_call func.Lower t = Ok (Text (map to_ascii_lowercase t))

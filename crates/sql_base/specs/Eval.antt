@@ -1,4 +1,5 @@
--- The value of an expression over a row.
+-- The value of an expression over a row, by recursion on the tree and from left to right: a fault of a part is the
+-- fault of the whole. PostgreSQL leaves the order open (manual, 4.2.14 Expression Evaluation Rules); ours is fixed.
 use Rattle.std.specs.Prelude.{ℕ, true, List, [], ◌∷◌, map, slice_index_or, Option, Some, None, Result, Ok, if◌then◌else◌}
 use Rattle.std.specs.List.{position}
 use Rattle.std.specs.Str.{bytes_eq}
@@ -25,20 +26,21 @@ abbrev pub value_at : List Value → Option ℕ → Value
 value_at row None = Null
 value_at row (Some at) = slice_index_or row at Null
 
--- AND and OR look at the right side only where the left does not decide.
+-- AND and OR look at the right side only where the left does not decide; all other operators look at both.
 abbrev pub binary : BinOp → Outcome → Outcome → Outcome
 binary op left right = and_then left (λ x. if settles op x then Ok x else and_then right (applied op x))
 
--- the branch after the first true condition
+-- PostgreSQL manual, 9.18.1 CASE: conditions in turn up to the first true one, and then that branch alone.
 abbrev pub case : List (Outcome × Outcome) → Outcome → Outcome
 case [] other = other
 case (arm ∷ arms) other = and_then arm.0 (λ test. if is_truth true test then arm.1 else case arms other)
 
--- the first value that is not NULL
+-- PostgreSQL manual, 9.18.2 COALESCE: the first value that is not NULL, and nothing after it.
 abbrev pub coalesce : List Outcome → Outcome
 coalesce [] = Ok Null
 coalesce (r ∷ rs) = and_then r (λ x. if is_null x then coalesce rs else Ok x)
 
+-- All other functions look at all their arguments.
 abbrev pub call : Func → List Outcome → Outcome
 call func.Coalesce args = coalesce args
 call f args = and_then (every args) (called f)

@@ -1,11 +1,13 @@
 pub mod Cast
 pub mod Eval
+pub mod Laws
 pub mod Outcome
+pub mod Row
 pub mod Shape
 pub mod Small
 pub mod SmallSteps
-pub mod Sound
 pub mod Text
+pub mod Tree
 pub mod Typing
 pub mod Value
 pub mod Weight

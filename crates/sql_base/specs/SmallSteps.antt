@@ -32,24 +32,30 @@ behind b (c ∷ text) = if c == b then Some text else None
 abbrev pub behind_all : List ℕ → List ℕ → Option (List ℕ)
 behind_all bytes text = if bytes_eq (take (length bytes) text) bytes then Some (drop (length bytes) text) else None
 
--- ---- tokens of one spelling
+-- ---- given tokens
 
+-- the rest behind a word that is this one
 unfoldable pub behind_word : List ℕ → List ℕ → Option (List ℕ)
 behind_word w text = if str_eq_ignore_ascii_case (take_while is_word_byte text) w then Some (drop_while is_word_byte text) else None
 
+-- the same, and blanks may stand before it
 unfoldable pub after_key : List ℕ → List ℕ → Option (List ℕ)
 after_key w text = behind_word w (drop_while is_blank text)
 
+-- the rest behind the byte, and blanks may stand before it
 unfoldable pub after_sign : ℕ → List ℕ → Option (List ℕ)
 after_sign b text = behind b (drop_while is_blank text)
 
+-- the rest behind the name: as a word, or quoted where a quote was found in front of `inner`
 abbrev pub behind_name : List ℕ → List ℕ → Option (List ℕ) → Option (List ℕ)
 behind_name name text None = behind_word name text
 behind_name name text (Some inner) = behind_all name inner >>= behind (byte "\"")
 
+-- the same, and blanks may stand before it
 unfoldable pub after_name : List ℕ → List ℕ → Option (List ℕ)
 after_name name text = behind_name name (drop_while is_blank text) (behind (byte "\"") (drop_while is_blank text))
 
+-- the rest behind a token that is no literal
 abbrev pub after : Token → List ℕ → Option (List ℕ)
 after (key w) = after_key w
 after (identifier name) = after_name name
@@ -57,12 +63,14 @@ after (sign b) = after_sign b
 after (number z) = λ _. None
 after (quoted t) = λ _. None
 
+-- the rest behind these tokens
 abbrev pub after_all : List Token → List ℕ → Option (List ℕ)
 after_all [] text = Some text
 after_all (token ∷ tokens) text = after token text >>= after_all tokens
 
 -- ---- literals
 
+-- the number of 1 to 18 digits, and the rest
 unfoldable pub digits_in : List ℕ → Option (ℤ × List ℕ)
 digits_in text =
     let digits = take_while is_ascii_digit text in
@@ -75,9 +83,11 @@ abbrev pub signed_in : List ℕ → Option (List ℕ) → Option (ℤ × List �
 signed_in text None = digits_in text
 signed_in text (Some digits) = option_map negated (digits_in digits)
 
+-- a number literal, and the rest
 unfoldable pub number_in : List ℕ → Option (ℤ × List ℕ)
 number_in text = signed_in (drop_while is_blank text) (behind (byte "-") (drop_while is_blank text))
 
+-- a text literal, and the rest
 unfoldable pub quoted_in : List ℕ → Option (List ℕ × List ℕ)
 quoted_in text = do
   inner ← after_sign (byte "'") text
@@ -114,6 +124,7 @@ values_in text = do
 abbrev pub ended : ℤ × List ℕ × List ℕ → Option (ℤ × List ℕ)
 ended (n, t, rest) = if is_end rest then Some (n, t) else None
 
+-- the number and the text of an INSERT
 unfoldable pub insert_in : List ℕ → Option (ℤ × List ℕ)
 insert_in text = after_all insert_columns text >>= values_in >>= ended
 
@@ -124,6 +135,7 @@ abbrev pub is_ended : Option (List ℕ) → Bool
 is_ended None = false
 is_ended (Some rest) = is_end rest
 
+-- the text is the SELECT
 unfoldable pub is_select : List ℕ → Bool
 is_select text = is_ended (after_all select_tokens text)
 

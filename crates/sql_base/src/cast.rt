@@ -12,7 +12,7 @@ use crate::copies::Copying;
 use crate::exprs::Func;
 use crate::faults::EvalFault;
 use crate::memory::NoMemory;
-use crate::operate::{accepts, is_truth, ordering, whole};
+use crate::operate::{alike, whole};
 use crate::texts::SqlText;
 use crate::values::{Ty, Value};
 use std::alloc::Global;
@@ -37,6 +37,7 @@ fn trim_back(text: &str) -> &str
     left
 }
 
+/// The text without the spaces at both ends.
 pub fn trimmed(text: &str) -> &str
     ensures { result.now ≡ spec.trimmed text.now }
 {
@@ -108,6 +109,9 @@ fn truth(alloc: Global, b: bool) -> Result<SqlText, NoMemory>
     Ok(SqlText::from_string(String::from_str(alloc, text)?))
 }
 
+/// The value as one of another type; NULL stays NULL.
+///
+/// An error is `BadText` where the text doesn't read as the type, `Range` where its number is no bigint, or want of memory.
 pub fn cast(alloc: Global, value: &Value, to: Ty) -> Result<Value, EvalFault>
     ensures { Gives EvalFault.NoMemory (spec.cast value.now to) result }
 {
@@ -126,7 +130,7 @@ pub fn cast(alloc: Global, value: &Value, to: Ty) -> Result<Value, EvalFault>
 fn nullif(alloc: Global, a: &Value, b: &Value) -> Result<Value, NoMemory>
     ensures { IfOk result (λ v. v ≡ spec.nullif a.now b.now) }
 {
-    if is_truth(true, &accepts(false, true, false, ordering(a, b))) {
+    if alike(a, b) {
         Ok(Value::Null)
     } else {
         a.copy(alloc)
@@ -170,7 +174,9 @@ fn text_call(alloc: Global, func: Func, text: &SqlText) -> Result<Value, EvalFau
     }
 }
 
-/// A function whose arguments are all evaluated first.
+/// What a function whose arguments are all evaluated first gives of these.
+///
+/// Of arguments of another type or number it is NULL. An error is want of memory.
 pub fn called(alloc: Global, func: Func, args: &[Value]) -> Result<Value, EvalFault>
     ensures { Gives EvalFault.NoMemory (spec.called func args.now) result }
 {

@@ -36,6 +36,11 @@ fn column_value(alloc: Global, shape: &Shape, row: &[Value], name: &Name) -> Res
     }
 }
 
+/// What an expression comes to over a row of a shape: a value, or the first fault from left to right.
+///
+/// An error is `DivZero`, `Range`, `BadText` or `TooLong` exactly where the rules say so, and may be `NoMemory`
+/// wherever memory was refused. A part of another type than its form asks, and a name that is no column's, count as
+/// NULL; no expression that has a type has such parts.
 #[cycle(eval)]
 #[tactic(auto, unfolding(crate::specs::Eval::eval, crate::specs::Eval::eval_arm))]
 pub fn eval(alloc: Global, e: &Expr, shape: &Shape, row: &[Value]) -> Result<Value, EvalFault>

@@ -8,52 +8,87 @@ use crate::values::{Ty, Value};
 use sqlite_items::{Boxed, Items};
 use std::alloc::Global;
 
+/// An operator between two operands.
 #[derive(Clone, Copy, Debug, PartialEq, Eq)]
 pub enum BinOp {
+    /// `OR`
     Or,
+    /// `AND`
     And,
+    /// `=`
     Eq,
+    /// `<>`
     Ne,
+    /// `<`
     Lt,
+    /// `<=`
     Le,
+    /// `>`
     Gt,
+    /// `>=`
     Ge,
+    /// `||`
     Concat,
+    /// `+`
     Add,
+    /// `-`
     Sub,
+    /// `*`
     Mul,
+    /// `/`, rounded toward zero
     Div,
+    /// `%`, with the sign of the left operand
     Rem,
 }
 
+/// A function.
 #[derive(Clone, Copy, Debug, PartialEq, Eq)]
 pub enum Func {
+    /// The first argument that isn't NULL.
     Coalesce,
+    /// NULL where the two arguments are equal, else the first.
     Nullif,
+    /// With ASCII letters as capitals.
     Upper,
+    /// With ASCII letters as small ones.
     Lower,
+    /// Without spaces at both ends.
     Trim,
+    /// The number of code points.
     Length,
 }
 
+/// An expression, as a tree.
 #[cycle(expr)]
 #[derive(Drop)]
 pub enum Expr {
+    /// A literal.
     Lit(Value),
+    /// The column of this name.
     Col(Name),
+    /// `NOT`
     Not(Boxed<Expr>),
+    /// `-` in front of its operand
     Neg(Boxed<Expr>),
+    /// `IS NULL`
     IsNull(Boxed<Expr>),
+    /// An operator between two operands.
     Bin(BinOp, Boxed<Expr>, Boxed<Expr>),
+    /// The operand as a value of this type.
     Cast(Boxed<Expr>, Ty),
+    /// CASE with its arms, and the branch of ELSE.
     Case(Items<Arm>, Boxed<Expr>),
+    /// A function of these arguments.
     Call(Func, Items<Expr>),
 }
 
+/// WHEN and THEN of a CASE.
 #[cycle(expr)]
 #[derive(Drop)]
 pub struct Arm {
+    /// The condition.
     pub when: Expr,
+    /// The branch.
     pub gives: Expr,
 }
 

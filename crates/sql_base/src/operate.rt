@@ -14,12 +14,14 @@ use std::cmp::Ordering;
 /// The longest text that a value holds, in bytes.
 pub const MAX_TEXT: usize = 4096;
 
+/// Whether the value is NULL.
 pub fn is_null(value: &Value) -> bool
     ensures { result ≡ spec.is_null value.now }
 {
     matches!(value, Value::Null)
 }
 
+/// Whether the value is this truth; NULL is neither.
 pub fn is_truth(wanted: bool, value: &Value) -> bool
     ensures { result ≡ spec.is_truth wanted value.now }
 {
@@ -29,6 +31,7 @@ pub fn is_truth(wanted: bool, value: &Value) -> bool
     }
 }
 
+/// The number with its sign turned, or `Range`; of anything else NULL.
 pub fn negated(value: &Value) -> Result<Value, EvalFault>
     ensures { result ≡ spec.negated value.now }
 {
@@ -41,6 +44,7 @@ pub fn negated(value: &Value) -> Result<Value, EvalFault>
     }
 }
 
+/// NOT: of anything but a truth NULL.
 pub fn inverted(value: &Value) -> Value
     ensures { result ≡ spec.inverted value.now }
 {
@@ -62,6 +66,7 @@ fn joined(ruling: bool, x: &Value, y: &Value) -> Value
     }
 }
 
+/// A result of arithmetic: `Range` where 64 bits didn't hold it.
 pub fn whole(n: Option<i64>) -> Result<Value, EvalFault>
     ensures { MatchOption n (result ≡ Err EvalFault.Range) (λ z. result ≡ Ok (Value.Int z)) }
 {
@@ -90,6 +95,7 @@ fn remainder(m: i64, n: i64) -> Result<Value, EvalFault>
     }
 }
 
+/// The order of two values of one type, or `None` where one is NULL or they are of two types.
 pub fn ordering(x: &Value, y: &Value) -> Option<Ordering>
     ensures { result ≡ spec.value_cmp x.now y.now }
 {
@@ -101,6 +107,7 @@ pub fn ordering(x: &Value, y: &Value) -> Option<Ordering>
     }
 }
 
+/// What a comparison says that is true of less, of equal and of greater as these three say; NULL without an order.
 pub fn accepts(less: bool, equal: bool, greater: bool, found: Option<Ordering>) -> Value
     ensures { result ≡ spec.accepts less equal greater found }
 {
@@ -110,6 +117,13 @@ pub fn accepts(less: bool, equal: bool, greater: bool, found: Option<Ordering>) 
         Some(Ordering::Equal) => Value::Bool(equal),
         Some(Ordering::Greater) => Value::Bool(greater),
     }
+}
+
+/// Whether `x = y` is true: neither is NULL, and they are equal.
+pub fn alike(x: &Value, y: &Value) -> bool
+    ensures { result ≡ spec.alike x.now y.now }
+{
+    is_truth(true, &accepts(false, true, false, ordering(x, y)))
 }
 
 fn concat(alloc: Global, x: &Value, y: &Value) -> Result<Value, EvalFault>
@@ -139,6 +153,9 @@ pub fn settles(op: BinOp, x: &Value) -> bool
     }
 }
 
+/// What an operator gives of its two operands, where the left one didn't decide alone.
+///
+/// An error is `DivZero`, `Range`, `TooLong` or want of memory.
 pub fn applied(alloc: Global, op: BinOp, x: &Value, y: &Value) -> Result<Value, EvalFault>
     ensures { Gives EvalFault.NoMemory (spec.applied op x.now y.now) result }
 {

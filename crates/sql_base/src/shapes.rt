@@ -7,36 +7,54 @@ use crate::texts::Name;
 use crate::values::{Ty, Value};
 use std::alloc::Global;
 
+/// A column of a table.
 #[derive(Debug, Drop, PartialEq, Eq)]
 pub struct Column {
+    /// Its name.
     pub name: Name,
+    /// The type of its values.
     pub ty: Ty,
+    /// Whether it takes NULL.
     pub nullable: bool,
+    /// The value of a row that names none.
     pub default: Value,
 }
 
+/// A condition that every row of a table meets.
 #[derive(Drop)]
 pub struct Check {
+    /// Its name.
     pub name: Name,
+    /// It is met where this is true or NULL.
     pub expr: Expr,
 }
 
+/// Columns whose values no two rows of a table have in common.
 #[derive(Debug, Drop)]
 pub struct Unique {
+    /// Its name.
     pub name: Name,
+    /// The places of the columns, from 0.
     pub columns: List<u32>,
 }
 
+/// What a table looks like in one version.
 #[derive(Drop)]
 pub struct Shape {
+    /// The columns, in order.
     pub columns: List<Column>,
+    /// The place of the key's column, from 0.
     pub key: u32,
+    /// The checks, in order.
     pub checks: List<Check>,
+    /// The unique constraints, in order.
     pub uniques: List<Unique>,
 }
 
+/// The tables of one version.
 #[derive(Drop)]
 pub struct Schema {
+    /// Of each table its name, its number and its shape.
     pub tables: List<(Name, u32, Shape)>,
 }
 

@@ -310,3 +310,117 @@ pub fn read(alloc: Global, line: &[u8]) -> Result<Option<Stmt>, NoMemory>
 pub fn a_text_reads_once()
     ensures { ReadsOnce }
 {}
+
+#[cfg(test)]
+mod tests {
+    use super::read;
+    use crate::exprs::Expr;
+    use crate::stmts::{Items, Stmt};
+    use crate::texts::Name;
+    use crate::values::Value;
+    use std::test::Fail;
+
+    const INSERTS: [(&str, i64, &str); 6] = [
+        ("INSERT INTO users (id, name) VALUES (1, 'a')", 1, "a"),
+        (
+            " insert\tINTO Users(ID ,nAme)values (\r-5,'b c' ) ; ",
+            -5,
+            "b c",
+        ),
+        ("INSERT INTO\"users\"(id,name)VALUES(1,'a')", 1, "a"),
+        (
+            "INSERT INTO users (\"id\", \"name\") VALUES (007, '');",
+            7,
+            "",
+        ),
+        ("INSERT INTO users(id,name)VALUES(-0,'~ \"*;')", 0, "~ \"*;"),
+        (
+            "INSERT INTO users(id,name)VALUES(-999999999999999999,'a')",
+            -999_999_999_999_999_999,
+            "a",
+        ),
+    ];
+
+    // A line each.
+    const SELECTS: &str = "SELECT * FROM users
+select*from users;
+\t SELECT * FROM\"users\"\r; ";
+
+    // A line each.
+    const NEITHER: &str = "
+;
+SELECT FROM users
+SELECT * FROM users users
+SELECT * FROM users;;
+SELECT * FROM \"USERS\"
+\"SELECT\" * FROM users
+SELECT * FROMusers
+SELECT * FROM users2
+INSERT INTO users (id, name) VALUES (1, 'a'
+INSERT INTO users (id name) VALUES (1, 'a')
+INSERT INTO users (name, id) VALUES (1, 'a')
+INSERT INTO users (id, name) VALUES (1234567890123456789, 'a')
+INSERT INTO users (id, name) VALUES (- 5, 'a')
+INSERT INTO users (id, name) VALUES (5a, 'a')
+INSERT INTO users (id, name) VALUES (1, 'a''b')
+INSERT INTO users (id, name) VALUES (1, 'a|b')
+INSERT INTO users (id, name) VALUES (1, 'a\\b')
+INSERT INTO users (id, name) VALUES (1, 'a\tb')
+INSERT INTO users (id, name) VALUES (1, 'a)";
+
+    fn is_named(name: &Name, bytes: &[u8]) -> bool {
+        name.as_slice() == bytes
+    }
+
+    fn is_insert(stmt: &Stmt, number: i64, text: &str) -> bool {
+        let Stmt::Insert(table, columns, rows) = stmt else {
+            return false;
+        };
+        let ([id, name], [row]) = (columns.as_slice(), rows.as_slice()) else {
+            return false;
+        };
+        let [Expr::Lit(Value::Int(n)), Expr::Lit(Value::Text(t))] = row.as_slice() else {
+            return false;
+        };
+        let named = is_named(table, b"users") && is_named(id, b"id") && is_named(name, b"name");
+        named && *n == number && t.as_str() == text
+    }
+
+    fn is_select(stmt: &Stmt) -> bool {
+        match stmt {
+            Stmt::Query(table, Items::All, None) => is_named(table, b"users"),
+            _ => false,
+        }
+    }
+
+    #[test]
+    fn forms(rt: HostRuntime) -> Result<(), Fail> {
+        for (line, number, text) in INSERTS {
+            let found = read(rt.alloc(), line.as_bytes())?;
+            assert!(rt;
+                found.is_some_and(|stmt| is_insert(&stmt, number, text)),
+                "{line}"
+            );
+        }
+        for line in SELECTS.split('\n') {
+            let found = read(rt.alloc(), line.as_bytes())?;
+            assert!(rt; found.is_some_and(|stmt| is_select(&stmt)), "{line}");
+        }
+        for line in NEITHER.split('\n') {
+            assert!(rt; read(rt.alloc(), line.as_bytes())?.is_none(), "{line}");
+        }
+        Ok(())
+    }
+
+    #[test]
+    fn long_lines(rt: HostRuntime) -> Result<(), Fail> {
+        let mut line = b"SELECT * FROM users".to_vec(rt.alloc())?;
+        for _ in 19..4096 {
+            line.push(b' ')?;
+        }
+        assert!(rt; read(rt.alloc(), line.as_slice())?.is_some());
+        line.push(b' ')?;
+        assert!(rt; read(rt.alloc(), line.as_slice())?.is_none());
+        Ok(())
+    }
+}

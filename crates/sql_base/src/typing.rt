@@ -1,6 +1,6 @@
 //! The type of an expression over a shape.
 
-ghost use Rattle.std.specs.Prelude.{◌≡◌, Ok, map};
+ghost use Rattle.std.specs.Prelude.{◌≡◌, None, Ok, map};
 ghost use Rattle.std.specs.Option.{option_copied};
 ghost use Rattle.sql_base.specs.Outcome.{Gives};
 ghost use Rattle.sql_base.specs.Typing as spec;
@@ -14,6 +14,7 @@ use crate::texts::Name;
 use crate::values::{Ty, Value};
 use std::alloc::Global;
 
+/// The column of a name.
 pub fn column_named<'a>(shape: &'a Shape, name: &Name) -> Option<&'a Column>
     ensures { option_copied result ≡ spec.column_named shape.now name.now }
 {
@@ -89,10 +90,36 @@ fn casts(from: Option<Ty>, to: Ty) -> bool
     }
 }
 
+/// Parts of one type, and that type.
+fn one_type(types: &[Option<Ty>]) -> Result<Option<Ty>, TypeFault>
+    ensures { result ≡ spec.one_type None types.now }
+{
+    let mut so_far = None;
+    for t in types {
+        so_far = agreed(so_far, *t)?;
+    }
+    Ok(so_far)
+}
+
+/// CASE with arms of these types, each a condition's and a branch's, and an ELSE of this type.
+fn case_type(arms: &[(Option<Ty>, Option<Ty>)], other: Option<Ty>) -> Result<Option<Ty>, TypeFault>
+    ensures { result ≡ spec.case_type None arms.now other }
+{
+    let mut branches = None;
+    for (test, branch) in arms {
+        if !fits(Ty::Boolean, *test) {
+            return Err(TypeFault::Mismatch);
+        }
+        branches = agreed(branches, *branch)?;
+    }
+    agreed(branches, other)
+}
+
 fn call_type(func: Func, args: &[Option<Ty>]) -> Result<Option<Ty>, TypeFault>
     ensures { result ≡ spec.call_type func args.now }
 {
     match (func, args) {
+        (Func::Coalesce, types) => one_type(types),
         (Func::Nullif, [a, b]) => agreed(*a, *b),
         (Func::Upper | Func::Lower | Func::Trim, [a]) => form(Ty::Text, Ty::Text, *a),
         (Func::Length, [a]) => form(Ty::Text, Ty::Bigint, *a),
@@ -111,8 +138,12 @@ fn type_of_value(value: &Value) -> Option<Ty>
     }
 }
 
-/// `None` is the type of NULL.
+/// The type of an expression over a shape, or its first fault; `None` is the type of NULL.
+///
+/// The parts of a form come before the form, in written order. An error is `NoColumn` where a name is no column's,
+/// `Mismatch` where a part has another type than its form asks, and may be `NoMemory` wherever memory was refused.
 #[cycle(type_of)]
+#[tactic(auto, unfolding(crate::specs::Typing::type_of, crate::specs::Typing::types_of_arm))]
 pub fn type_of(alloc: Global, e: &Expr, shape: &Shape) -> Result<Option<Ty>, TypeFault>
     ensures { Gives TypeFault.NoMemory (spec.type_of shape.now e.now) result }
 {
@@ -141,10 +172,9 @@ pub fn type_of(alloc: Global, e: &Expr, shape: &Shape) -> Result<Option<Ty>, Typ
             }
         }
         Expr::Case(arms, other) => {
-            let branches = arms_type(alloc, arms.as_slice(), shape)?;
-            agreed(branches, type_of(alloc, other.get(), shape)?)
+            let types = types_of_arms(alloc, arms.as_slice(), shape)?;
+            case_type(types.as_slice(), type_of(alloc, other.get(), shape)?)
         }
-        Expr::Call(Func::Coalesce, args) => one_type(alloc, args.as_slice(), shape),
         Expr::Call(func, args) => {
             let types = types_of(alloc, args.as_slice(), shape)?;
             call_type(*func, types.as_slice())
@@ -152,31 +182,27 @@ pub fn type_of(alloc: Global, e: &Expr, shape: &Shape) -> Result<Option<Ty>, Typ
     }
 }
 
-/// The type of the branches of all arms.
+/// Of each arm, the type of its condition and that of its branch.
 #[cycle(type_of)]
-fn arms_type(alloc: Global, arms: &[Arm], shape: &Shape) -> Result<Option<Ty>, TypeFault>
-    ensures { Gives TypeFault.NoMemory (spec.arms_of shape.now None arms.now) result }
+#[tactic(auto, unfolding(crate::specs::Typing::type_of, crate::specs::Typing::types_of_arm))]
+fn types_of_arms(
+    alloc: Global,
+    arms: &[Arm],
+    shape: &Shape,
+) -> Result<List<(Option<Ty>, Option<Ty>)>, TypeFault>
+    ensures { Gives TypeFault.NoMemory (spec.arms_of shape.now arms.now) result }
 {
-    let mut branches = None;
+    let mut types = List::new(alloc);
     for arm in arms {
-        form(Ty::Boolean, Ty::Boolean, type_of(alloc, &arm.when, shape)?)?;
-        branches = agreed(branches, type_of(alloc, &arm.gives, shape)?)?;
+        let test = type_of(alloc, &arm.when, shape)?;
+        let branch = type_of(alloc, &arm.gives, shape)?;
+        types.push((test, branch))?;
     }
-    Ok(branches)
+    Ok(types)
 }
 
 #[cycle(type_of)]
-fn one_type(alloc: Global, args: &[Expr], shape: &Shape) -> Result<Option<Ty>, TypeFault>
-    ensures { Gives TypeFault.NoMemory (spec.one_of shape.now None args.now) result }
-{
-    let mut so_far = None;
-    for e in args {
-        so_far = agreed(so_far, type_of(alloc, e, shape)?)?;
-    }
-    Ok(so_far)
-}
-
-#[cycle(type_of)]
+#[tactic(auto, unfolding(crate::specs::Typing::type_of, crate::specs::Typing::types_of_arm))]
 fn types_of(alloc: Global, args: &[Expr], shape: &Shape) -> Result<List<Option<Ty>>, TypeFault>
     ensures { Gives TypeFault.NoMemory (spec.every_of shape.now args.now) result }
 {

@@ -4,18 +4,27 @@ use crate::memory::NoMemory;
 use crate::texts::SqlText;
 use std::alloc::Global;
 
+/// A type of values.
 #[derive(Clone, Copy, Debug, PartialEq, Eq)]
 pub enum Ty {
+    /// Whole numbers of 64 bits, with a sign.
     Bigint,
+    /// Texts.
     Text,
+    /// Truths.
     Boolean,
 }
 
+/// A value.
 #[derive(Debug, Drop, PartialEq, Eq)]
 pub enum Value {
+    /// NULL, which has every type.
     Null,
+    /// A bigint.
     Int(i64),
+    /// A text.
     Text(SqlText),
+    /// A boolean.
     Bool(bool),
 }
 

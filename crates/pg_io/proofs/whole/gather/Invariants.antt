@@ -1,4 +1,4 @@
-use Rattle.std.proofs.Common.{◌≤◌, ◌-◌, length}
+use Rattle.std.proofs.Common.{◌≡◌, ◌≤◌, ◌-◌, length}
 use Rattle.std.specs.Io.KnownBytes.{Consumes}
 use Rattle.pg_io.proofs.whole.gather.Given as goal
 
@@ -6,7 +6,7 @@ abbrev pub invariant-loop-text : goal.invariant-loop-text
 invariant-loop-text g l = record {
   taken : Consumes (g.S.Source.left l.fn.input) (g.S.Source.left l.input) l.text.items;
   short : length l.text.items ≤ l.limit;
-  later : g.S.Source.faults l.fn.input ≤ g.S.Source.faults l.input;
+  same : g.S.Source.faults l.input ≡ g.S.Source.faults l.fn.input;
 }
 
 abbrev pub decreases-loop-text : goal.decreases-loop-text

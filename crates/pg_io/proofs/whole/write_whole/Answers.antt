@@ -1,4 +1,4 @@
-use Rattle.std.proofs.Common.{◌+◌, ◌≤◌, length, length-take, length-drop, arith, sym, take, drop}
+use Rattle.std.proofs.Common.{◌∙◌, ◌+◌, ◌≤◌, length, length-take, length-drop, arith, sym, take, drop}
 use Rattle.std.proofs.lemmas.List.{take-append-drop}
 use Rattle.std.proofs.lemmas.Result.{err_from_is_err_and}
 use Rattle.pg_io.proofs.Known.{appends_more, appends_kept, take_step, rest_missing, rose_since}
@@ -7,6 +7,7 @@ use Rattle.pg_io.proofs.whole.write_whole.Goals as goal
 pub returns-in_err-written-clause-cut : goal.returns-in_err-written-clause-cut
 returns-in_err-written-clause-cut g c =
     let p = err_from_is_err_and c.from_residual.result c.from_residual.ensures.1 in
+    let later : g.K.Sink.faults c.args.out.now ≤ g.K.Sink.faults c.loop-written.out = omega (arith, c.loop-written.invariant.same) in
     rw p.1 (
     record {
       front = take c.loop-written.written c.args.bytes.now;
@@ -14,7 +15,7 @@ returns-in_err-written-clause-cut g c =
       split = sym (take-append-drop c.loop-written.written c.args.bytes.now);
       some = rest_missing c.args.bytes.now c.loop-written.written c.loop-written-test.true;
       written = appends_kept _ _ _ _ c.loop-written.invariant.held c.in_err-written.ensures.bytes;
-      failed = rose_since _ _ _ c.loop-written.invariant.later c.in_err-written.ensures.cause.failed;
+      failed = rose_since _ _ _ later c.in_err-written.ensures.cause.failed;
     }
     )
 
@@ -24,5 +25,5 @@ loop-written-preserved g c =
     let fits : c.loop-written.written + c.in_ok-written.field-0 ≤ length c.args.bytes.now = omega arith in record {
       within = fits;
       held = appends_more _ _ _ _ _ _ (take_step c.args.bytes.now c.loop-written.written c.in_ok-written.field-0 fits) c.loop-written.invariant.held c.in_ok-written.ensures.bytes;
-      later = omega (arith, c.loop-written.invariant.later, c.in_ok-written.ensures.cause.later);
+      same = c.in_ok-written.ensures.cause.passed ∙ c.loop-written.invariant.same;
     }

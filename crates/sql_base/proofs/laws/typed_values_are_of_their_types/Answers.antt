@@ -1,5 +1,5 @@
 use Rattle.sql_base.proofs.Fitting.{fits_suits}
-use Rattle.sql_base.proofs.Soundness2.{sound}
+use Rattle.sql_base.proofs.Soundness.{sound}
 use Rattle.sql_base.proofs.laws.typed_values_are_of_their_types.Goals as goal
 
 pub returns : goal.returns

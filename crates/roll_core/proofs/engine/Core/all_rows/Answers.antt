@@ -6,4 +6,4 @@ use Rattle.roll_core.proofs.engine.Core.all_rows.Goals as goal
 pub returns : goal.returns
 returns c =
     let all : c.loop-row.rows ≡ values_of c.self.inside.rows.entries = search rules in
-    rw (← c.self.view_is) (all ∙ sym (shown-kept c.self.inside.rows.entries))
+    rw (← c.self.view_is) (all ∙ sym (shown-kept c.self.inside.version c.self.inside.table c.self.inside.shape c.self.inside.rows.entries c.self.inside.rows.entries))

@@ -1,0 +1,19 @@
+-- The values of a row, with bars between them.
+use Rattle.std.proofs.Common.{◌≡◌, ℕ, List, [], ◌∷◌, ◌++◌, map, refl, ap, append-nil, append_assoc, codes, sym}
+use Rattle.std.specs.List.{flat_map, join_with_byte}
+use Rattle.sql_base.specs.declared.values.Value.{Value}
+use Rattle.roll_core.specs.Lines.{value_text, row_text}
+use Rattle.pgroll_top.specs.Report.{values_text}
+
+-- the first piece, and then each next one behind the byte
+join_with_byte-cons : {X : Type 0} (c : ℕ) (f : X → List ℕ) (x : X) (xs : List X) → join_with_byte c (map f (x ∷ xs)) ≡ f x ++ flat_map (λ y. c ∷ f y) xs
+join_with_byte-cons c f x [] = sym (append-nil (f x))
+join_with_byte-cons c f x (y ∷ ys) = ap (λ rest. f x ++ c ∷ rest) (join_with_byte-cons c f y ys)
+
+pub join-values : (values : List Value) → join_with_byte 124 (map value_text values) ≡ values_text values
+join-values [] = refl
+join-values (value ∷ values) = join_with_byte-cons 124 value_text value values
+
+-- a row whose parts were pushed one after another
+pub row_pushed : (row : List Value) (old blanks values out : List ℕ) → blanks ≡ old ++ codes "  " → values ≡ blanks ++ values_text row → out ≡ values ++ codes "\n" → out ≡ old ++ row_text row
+row_pushed row old blanks values out a b c = rw (c, b, a, join-values row) (simp append_assoc)

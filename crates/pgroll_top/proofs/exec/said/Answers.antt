@@ -1,0 +1,7 @@
+use Rattle.std.proofs.Common.{subst}
+use Rattle.roll_core.specs.declared.model.Reading.TheVariants.{Stmt as Read}
+use Rattle.pgroll_top.specs.Parts.{IsReading}
+use Rattle.pgroll_top.proofs.exec.said.Goals as goal
+
+pub returns-in-Some : goal.returns-in-Some
+returns-in-Some c = (Read c.in-Some.stmt, subst (IsReading c.args.line.now) c.in-Some.is c.requires, c.statement.ensures.step)

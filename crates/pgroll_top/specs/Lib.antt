@@ -1,0 +1,5 @@
+pub mod Input
+pub mod Parts
+pub mod Report
+pub mod Top
+pub mod Work

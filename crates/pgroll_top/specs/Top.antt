@@ -1,0 +1,96 @@
+-- What a call does: one history explains the status, what was read and what was written.
+use Rattle.std.specs.Prelude.{◌≡◌, ◌⊎◌, ℕ, ◌≤◌, List, [], ◌∷◌, ◌++◌, length, map, String, string_bytes, codes}
+use Rattle.std.specs.declared.alloc.Global.{Global}
+use Rattle.std.specs.Io.KnownBytes.{Appends}
+use Rattle.pg_io.specs.Outside.{Known, Cut, Faulted, Quiet, Untouched, ReadsFront, ReadsWhole, PassesLimit}
+use Rattle.roll_core.specs.declared.model.Entry.{Entry}
+use Rattle.pgroll_top.specs.declared.ending.End.{End}
+use Rattle.pgroll_top.specs.declared.ending.End.TheVariants.{Done, Usage, ReadFault, InputTooLong, WantOfMemory}
+use Rattle.pgroll_top.specs.Work.{IsHistory, IsShown, Follows, Begins, lines_of, line_of}
+
+-- ---- words and input
+
+-- The words, as bytes.
+abbrev pub texts : List (String Global) → List (List ℕ)
+texts words = map (λ word. string_bytes word) words
+
+-- The words are of a form. So far the one form is `exec` alone.
+abbrev pub IsForm : List (List ℕ) → Type 0
+IsForm words = words ≡ codes "exec" ∷ []
+
+-- The words are of a form whose command reads an input. So far every form's does.
+abbrev pub HasInput : List (List ℕ) → Type 0
+HasInput words = IsForm words
+
+-- The longest input, in bytes.
+abbrev pub limit : ℕ
+limit = 65536
+
+-- This is the whole input, it is within the limit, and no read failed. (Of a source that doesn't tell its bytes, it may be any text.)
+abbrev pub IsInput : Known → List ℕ → Type 0
+IsInput input text = ReadsWhole input.before input.after text × (length text ≤ limit) × Quiet input
+
+-- ---- the work
+
+-- The input was read to its end, and the history does all its work.
+abbrev pub DoesAll : Known → List Entry → Type 0
+DoesAll input history = (text : List ℕ) × IsInput input text × Follows history text
+
+-- The same for the first part of the work; or nothing was done, and some front of the input was read, with no fault.
+abbrev pub DoesPart : Known → List Entry → Type 0
+DoesPart input history = ((text : List ℕ) × IsInput input text × Begins history text) ⊎ ((history ≡ []) × ReadsFront input.before input.after × Quiet input)
+
+-- The last entry's line was cut short by a fault, and all lines before it are whole. No entry comes after it.
+abbrev pub CutAtLast : Known → List Entry → Type 0
+CutAtLast output history = (done : List Entry) × (last : Entry) × (history ≡ done ++ last ∷ []) × Cut output (lines_of done) (line_of last)
+
+-- ---- how a call ends
+
+-- The line of an end; the end of the work itself has none.
+abbrev pub end_line : End → List ℕ
+end_line Done = []
+end_line Usage = codes "usage: pgroll_cli JOURNAL COMMAND [ARGS] [--batch N] [--pause-at N]\n"
+end_line ReadFault = codes "0 control ERROR read\n"
+end_line InputTooLong = codes "0 control ERROR input\n"
+end_line WantOfMemory = codes "0 control ERROR memory\n"
+
+abbrev pub status_of : End → ℕ
+status_of Done = 0
+status_of Usage = 2
+status_of ReadFault = 3
+status_of InputTooLong = 8
+status_of WantOfMemory = 6
+
+-- The status where the writing of a line failed.
+abbrev pub write_fault : ℕ
+write_fault = 4
+
+-- The statuses of a call that did all its work.
+abbrev pub IsDone : ℕ → Type 0
+IsDone status = status ≡ status_of Done
+
+-- Why the call came to this end, with which history, and which entries of it had their lines written.
+abbrev pub Because : List (List ℕ) → Known → End → List Entry → List Entry → Type 0
+Because words input Done history shown = IsForm words × DoesAll input history × (shown ≡ history)
+Because words input Usage history shown = ¬ IsForm words × Untouched input × (history ≡ []) × (shown ≡ [])
+Because words input ReadFault history shown = IsForm words × Faulted input × ReadsFront input.before input.after × (history ≡ []) × (shown ≡ [])
+Because words input InputTooLong history shown = IsForm words × PassesLimit limit input.before input.after × Quiet input × (history ≡ []) × (shown ≡ [])
+Because words input WantOfMemory history shown = IsForm words × DoesPart input history × IsShown shown history
+
+-- The call came to an end: some lines were written, and then the end's own line, and no write failed; or that line was cut short by a fault.
+abbrev pub Closes : Known → List ℕ → End → ℕ → Type 0
+Closes output whole end status =
+    ((status ≡ status_of end) × Appends output.before output.after (whole ++ end_line end) × Quiet output) ⊎ ((status ≡ write_fault) × Cut output whole (end_line end))
+
+-- The call came to an end, for a cause.
+abbrev pub Ends : List (List ℕ) → Known → Known → ℕ → List Entry → Type 0
+Ends words input output status history =
+    (end : End) × (shown : List Entry) × Because words input end history shown × Closes output (lines_of shown) end status
+
+-- The writing of an entry's line failed.
+abbrev pub Breaks : List (List ℕ) → Known → Known → ℕ → List Entry → Type 0
+Breaks words input output status history = IsForm words × (status ≡ write_fault) × DoesPart input history × CutAtLast output history
+
+-- This history explains the call: it is a run of the machine, and the words, what was read, what was written and the status are as it says. A call ends in one of two ways: with its end's own line, or at an entry's line whose writing failed.
+abbrev pub Explains : List (List ℕ) → Known → Known → ℕ → List Entry → Type 0
+Explains words input output status history = IsHistory history × (Ends words input output status history ⊎ Breaks words input output status history)

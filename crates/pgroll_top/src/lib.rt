@@ -1,0 +1,11 @@
+//! The top call: from the words and the input's bytes to the output's lines and the status.
+#![tactic(auto)]
+
+mod command;
+mod ending;
+mod exec;
+mod input;
+mod report;
+
+pub use command::top;
+pub use ending::{End, close};

@@ -1,0 +1,197 @@
+//! The lines that tell a reply.
+ghost use Rattle.std.specs.Prelude.{◌≡◌, ◌++◌, codes, decimal, IfOk, OnOk, unwrap_or};
+ghost use Rattle.std.specs.Fmt.{signed_decimal};
+ghost use Rattle.std.specs.List.{flat_map};
+ghost use Rattle.std.specs.Option.{option_map_or};
+ghost use Rattle.roll_core.specs.Lines as spec;
+ghost use Rattle.pgroll_top.specs.Report.{values_text};
+
+use roll_core::model::Reply;
+use sql_base::{Code, List, Name, NoMemory, SqlText, Value};
+use std::alloc::Global;
+
+fn code_text(code: Code) -> &'static str
+    ensures { result.now ≡ spec.code_text code }
+{
+    match code {
+        Code::C22003 => "22003",
+        Code::C22012 => "22012",
+        Code::C22P02 => "22P02",
+        Code::C23502 => "23502",
+        Code::C23505 => "23505",
+        Code::C23514 => "23514",
+        Code::C0A000 => "0A000",
+        Code::C42601 => "42601",
+        Code::C42701 => "42701",
+        Code::C42703 => "42703",
+        Code::C42804 => "42804",
+        Code::C42P01 => "42P01",
+        Code::C53200 => "53200",
+        Code::C54000 => "54000",
+    }
+}
+
+// A byte of a text, with a backslash in front where it would be taken for something else.
+fn push_escaped(out: &mut Vec<u8>, byte: u8) -> Result<(), NoMemory>
+    ensures { OnOk result (out.new.items ≡ out.old.items ++ spec.escaped_byte byte) }
+{
+    match byte {
+        b'\\' => out.extend_from_slice(b"\\\\")?,
+        b'|' => out.extend_from_slice(b"\\|")?,
+        b'\n' => out.extend_from_slice(b"\\n")?,
+        b'\r' => out.extend_from_slice(b"\\r")?,
+        _ => out.push(byte)?,
+    }
+    Ok(())
+}
+
+fn push_text(out: &mut Vec<u8>, text: &SqlText) -> Result<(), NoMemory>
+    ensures { OnOk result (out.new.items ≡ out.old.items ++ flat_map spec.escaped_byte text.now) }
+{
+    for byte in text.as_str().as_bytes() {
+        push_escaped(out, *byte)?;
+    }
+    Ok(())
+}
+
+fn push_int(out: &mut Vec<u8>, alloc: Global, n: i64) -> Result<(), NoMemory>
+    ensures { OnOk result (out.new.items ≡ out.old.items ++ signed_decimal n) }
+{
+    let digits = format!(in alloc; "{n}")?;
+    out.extend_from_slice(digits.as_bytes())?;
+    Ok(())
+}
+
+fn push_value(out: &mut Vec<u8>, alloc: Global, value: &Value) -> Result<(), NoMemory>
+    ensures { OnOk result (out.new.items ≡ out.old.items ++ spec.value_text value.now) }
+{
+    match value {
+        Value::Null => Ok(out.extend_from_slice(b"\\N")?),
+        Value::Int(n) => push_int(out, alloc, *n),
+        Value::Text(text) => push_text(out, text),
+        Value::Bool(true) => Ok(out.extend_from_slice(b"true")?),
+        Value::Bool(false) => Ok(out.extend_from_slice(b"false")?),
+    }
+}
+
+// Values, each behind a bar.
+fn push_barred(out: &mut Vec<u8>, alloc: Global, values: &[Value]) -> Result<(), NoMemory>
+    ensures { OnOk result (out.new.items ≡ out.old.items ++ flat_map (λ next. codes "|" ++ spec.value_text next) values.now) }
+{
+    for value in values {
+        out.extend_from_slice(b"|")?;
+        push_value(out, alloc, value)?;
+    }
+    Ok(())
+}
+
+fn push_values(out: &mut Vec<u8>, alloc: Global, values: &[Value]) -> Result<(), NoMemory>
+    ensures { OnOk result (out.new.items ≡ out.old.items ++ values_text values.now) }
+{
+    match values {
+        [] => Ok(()),
+        [first, rest @ ..] => {
+            push_value(out, alloc, first)?;
+            push_barred(out, alloc, rest)
+        }
+    }
+}
+
+fn push_row(out: &mut Vec<u8>, alloc: Global, row: &[Value]) -> Result<(), NoMemory>
+    ensures { OnOk result (out.new.items ≡ out.old.items ++ spec.row_text row.now) }
+{
+    out.extend_from_slice(b"  ")?;
+    push_values(out, alloc, row)?;
+    out.extend_from_slice(b"\n")?;
+    Ok(())
+}
+
+fn push_rows(out: &mut Vec<u8>, alloc: Global, rows: &[List<Value>]) -> Result<(), NoMemory>
+    ensures { OnOk result (out.new.items ≡ out.old.items ++ flat_map spec.row_text rows.now) }
+{
+    for row in rows {
+        push_row(out, alloc, row.as_slice())?;
+    }
+    Ok(())
+}
+
+fn push_name(out: &mut Vec<u8>, name: &Option<Name>) -> Result<(), NoMemory>
+    ensures { OnOk result (out.new.items ≡ out.old.items ++ unwrap_or name.now (codes "-")) }
+{
+    match name {
+        Some(name) => Ok(out.extend_from_slice(name.as_slice())?),
+        None => Ok(out.extend_from_slice(b"-")?),
+    }
+}
+
+fn push_key(out: &mut Vec<u8>, alloc: Global, key: Option<i64>) -> Result<(), NoMemory>
+    ensures { OnOk result (out.new.items ≡ out.old.items ++ option_map_or signed_decimal key (codes "-")) }
+{
+    match key {
+        Some(key) => push_int(out, alloc, key),
+        None => Ok(out.extend_from_slice(b"-")?),
+    }
+}
+
+fn push_error(
+    out: &mut Vec<u8>,
+    alloc: Global,
+    code: Code,
+    name: &Option<Name>,
+    key: Option<i64>,
+) -> Result<(), NoMemory>
+    ensures { OnOk result (out.new.items ≡ out.old.items ++ spec.reply_text (Reply.Error code name.now key)) }
+{
+    out.extend_from_slice(b"ERROR ")?;
+    out.extend_from_slice(code_text(code).as_bytes())?;
+    out.extend_from_slice(b" ")?;
+    push_name(out, name)?;
+    out.extend_from_slice(b" ")?;
+    push_key(out, alloc, key)?;
+    out.extend_from_slice(b"\n")?;
+    Ok(())
+}
+
+fn push_count(out: &mut Vec<u8>, alloc: Global, count: u64) -> Result<(), NoMemory>
+    ensures { OnOk result (out.new.items ≡ out.old.items ++ decimal count) }
+{
+    let digits = format!(in alloc; "{count}")?;
+    out.extend_from_slice(digits.as_bytes())?;
+    Ok(())
+}
+
+fn push_select(out: &mut Vec<u8>, alloc: Global, rows: &[List<Value>]) -> Result<(), NoMemory>
+    ensures { OnOk result (out.new.items ≡ out.old.items ++ spec.reply_text (Reply.Select rows.now)) }
+{
+    out.extend_from_slice(b"SELECT ")?;
+    push_count(out, alloc, rows.len() as u64)?;
+    out.extend_from_slice(b"\n")?;
+    push_rows(out, alloc, rows)
+}
+
+fn push_reply(out: &mut Vec<u8>, alloc: Global, reply: &Reply) -> Result<(), NoMemory>
+    ensures { OnOk result (out.new.items ≡ out.old.items ++ spec.reply_text reply.now) }
+{
+    match reply {
+        Reply::Insert(count) => {
+            out.extend_from_slice(b"INSERT 0 ")?;
+            push_count(out, alloc, u64::from(*count))?;
+            Ok(out.extend_from_slice(b"\n")?)
+        }
+        Reply::Select(rows) => push_select(out, alloc, rows.as_slice()),
+        Reply::Error { code, name, key } => push_error(out, alloc, *code, name, *key),
+    }
+}
+
+/// The line of a reply with its number and the name of its actor, and the lines of its rows.
+pub fn line_of(alloc: Global, number: u32, actor: &str, reply: &Reply) -> Result<Vec<u8>, NoMemory>
+    ensures { IfOk result (λ line. line.items ≡ spec.numbered number actor.now reply.now) }
+{
+    let mut out = Vec::new(alloc);
+    push_count(&mut out, alloc, u64::from(number))?;
+    out.extend_from_slice(b" ")?;
+    out.extend_from_slice(actor.as_bytes())?;
+    out.extend_from_slice(b" ")?;
+    push_reply(&mut out, alloc, reply)?;
+    Ok(out)
+}
