@@ -23,8 +23,10 @@ pub struct FileDisk<R: Files> {
 }
 
 impl<R: Files> FileDisk<R> {
-    /// Nothing is opened yet.
-    pub fn new(files: R, path: String) -> Self {
+    /// Nothing is opened yet, and nothing has failed.
+    pub fn new(files: R, path: String) -> Self
+        ensures { ⟦<FileDisk<R> as Disk>⟧.faults result ≡ 0 }
+    {
         FileDisk {
             files,
             path,
