@@ -1,3 +1,1 @@
 mod calls;
-mod engine;
-mod wanting;

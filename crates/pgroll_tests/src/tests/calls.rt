@@ -130,9 +130,7 @@ fn ends_are_told(rt: HostRuntime) -> Result<(), Fail> {
 /// This text, and then one byte as often as makes so many bytes.
 fn filled(alloc: Global, text: &str, byte: u8, length: usize) -> Result<Vec<u8>, NoMemory> {
     let mut bytes = Vec::from_slice(alloc, text.as_bytes())?;
-    while bytes.len() < length {
-        bytes.push(byte)?;
-    }
+    bytes.extend_from_slice(&vec![in alloc; byte; length.saturating_sub(text.len())]?)?;
     Ok(bytes)
 }
 
