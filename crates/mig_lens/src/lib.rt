@@ -1,0 +1,12 @@
+//! Migrations: what their operations make of a schema, and the lens between a table's two shapes.
+#![tactic(auto)]
+
+mod columns;
+mod faults;
+mod migrations;
+mod plans;
+
+pub use columns::{Cell, Lens, Side};
+pub use faults::{Kind, Member, Place, PlanFault, Refusal};
+pub use migrations::{ColumnDef, Migration, Op, Ways};
+pub use plans::{Fate, Layout, Plan};
