@@ -3,10 +3,14 @@
 
 mod columns;
 mod faults;
+mod halves;
+mod layouts;
 mod migrations;
 mod plans;
 
 pub use columns::{Cell, Lens, Side};
 pub use faults::{Kind, Member, Place, PlanFault, Refusal};
+pub use halves::{backward, forward};
+pub use layouts::layout;
 pub use migrations::{ColumnDef, Migration, Op, Ways};
 pub use plans::{Fate, Layout, Plan};
