@@ -4,6 +4,7 @@
 mod columns;
 mod faults;
 mod halves;
+pub mod laws;
 mod layouts;
 mod migrations;
 mod plans;
