@@ -1,1 +1,2 @@
 pub mod MadeHalves
+pub mod Places
