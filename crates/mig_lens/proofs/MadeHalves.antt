@@ -33,7 +33,7 @@ all_true true b h k = k
 all_true false b h k = h
 
 -- where what comes next has a value, the first outcome has one
-and_then_ok : {T U E : Type 0} (r : Result T E) (next : T → Result U E) (y : U) → and_then r next ≡ Ok y → (x : T) × (r ≡ Ok x) × (next x ≡ Ok y)
+pub and_then_ok : {T U E : Type 0} (r : Result T E) (next : T → Result U E) (y : U) → and_then r next ≡ Ok y → (x : T) × (r ≡ Ok x) × (next x ≡ Ok y)
 and_then_ok (Ok x) next y h = (x, refl, h)
 and_then_ok (Err e) next y h = cc
 

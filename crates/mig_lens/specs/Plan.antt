@@ -123,10 +123,9 @@ unique_name_fault old table column name = when (column.unique && (is_named name 
 abbrev pub needs_up : ColumnDef → Option Expr → Bool
 needs_up column up = not column.nullable && is_null column.default && is_none up
 
--- What is wrong with a new column of a table, in the operation at this place: P9, P10, P12, P15, P20.
-abbrev pub column_fault : Schema → ℕ → Table → ColumnDef → Option Expr → Option PlanFault
-column_fault old at table column up =
-    first (
+-- What is wrong with a new column of a table, in the operation at this place, in this order: P9, P10, P12, P15, P20.
+abbrev pub column_faults : Schema → ℕ → Table → ColumnDef → Option Expr → List (Option PlanFault)
+column_faults old at table column up =
     when (is_taken (has_column column.name) old table) (Exists column.name)
     ∷ check_name_fault old table column.check
     ∷ unique_name_fault old table column (unique_name table.0 column.name)
@@ -134,7 +133,10 @@ column_fault old at table column up =
     ∷ when (needs_up column up) (UpNeeded table.0 column.name)
     ∷ when (not (has_type (Some column.ty) column.default)) (BadType (record { operation = at; member = member.Default }))
     ∷ when (nat_le max_columns (length table.2.columns)) (Limit (codes "columns"))
-    ∷ [])
+    ∷ []
+
+abbrev pub column_fault : Schema → ℕ → Table → ColumnDef → Option Expr → Option PlanFault
+column_fault old at table column up = first (column_faults old at table column up)
 
 abbrev pub column_of : ColumnDef → Column
 column_of column = record { name = column.name; ty = column.ty; nullable = column.nullable; default = column.default }

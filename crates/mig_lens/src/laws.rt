@@ -1,6 +1,6 @@
 //! The laws of lenses and plans. Each is the contract of a function that does nothing.
 
-ghost use Rattle.mig_lens.specs.Laws.{ForwardFits, BackwardFits, BackwardOfForward};
+ghost use Rattle.mig_lens.specs.Laws.{ForwardFits, BackwardFits, BackwardOfForward, PlannedLensesJoin, AddedColumnsLoseNothing};
 
 /// A half that is made from one that fits its shape fits the other shape, and has the same key.
 ///
@@ -15,4 +15,12 @@ pub fn made_halves_fit()
 /// from it.
 pub fn nothing_is_lost_forward()
     ensures { BackwardOfForward }
+{}
+
+/// Each table that a plan keeps has a shape in both versions, and its lens fits the two shapes and is well formed over
+/// them, for every schema whose tables have different numbers and well-formed shapes. Where each operation is
+/// `add_column` every old column is carried.
+pub fn planned_lenses_join()
+    ensures join { PlannedLensesJoin }
+    ensures carry { AddedColumnsLoseNothing }
 {}
