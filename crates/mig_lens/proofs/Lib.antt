@@ -1,0 +1,4 @@
+pub mod Growing
+pub mod MadeHalves
+pub mod Places
+pub mod Planned

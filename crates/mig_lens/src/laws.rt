@@ -1,0 +1,26 @@
+//! The laws of lenses and plans. Each is the contract of a function that does nothing.
+
+ghost use Rattle.mig_lens.specs.Laws.{ForwardFits, BackwardFits, BackwardOfForward, PlannedLensesJoin, AddedColumnsLoseNothing};
+
+/// A half that is made from one that fits its shape fits the other shape, and has the same key.
+///
+/// It holds both ways, for every lens that is well formed over the two shapes and fits them, whether or not the row
+/// had a half there before.
+pub fn made_halves_fit()
+    ensures forward { ForwardFits }
+    ensures backward { BackwardFits }
+{}
+
+/// Where every old column is carried, as after `add_column`, an old half comes back from the new half that was made
+/// from it.
+pub fn nothing_is_lost_forward()
+    ensures { BackwardOfForward }
+{}
+
+/// Each table that a plan keeps has a shape in both versions, and its lens fits the two shapes and is well formed over
+/// them, for every schema whose tables have different numbers and well-formed shapes. Where each operation is
+/// `add_column` every old column is carried.
+pub fn planned_lenses_join()
+    ensures join { PlannedLensesJoin }
+    ensures carry { AddedColumnsLoseNothing }
+{}
