@@ -7,8 +7,8 @@ use Rattle.sql_base.specs.declared.shapes.Column.{Column}
 use Rattle.sql_base.specs.declared.shapes.Shape.{Shape}
 use Rattle.sql_base.specs.declared.values.Ty.{Ty}
 use Rattle.sql_base.specs.declared.values.Ty.TheVariants.{Bigint, Text, Boolean}
-use Rattle.sql_base.specs.Shape.{is_key}
-use Rattle.sql_base.specs.Typing.{same}
+use Rattle.sql_eval.specs.Shape.{is_key}
+use Rattle.sql_eval.specs.Typing.{same}
 use Rattle.mig_lens.specs.declared.columns.Cell.{Cell}
 use Rattle.mig_lens.specs.declared.columns.Cell.TheVariants.{Carry, Make, Still}
 use Rattle.mig_lens.specs.declared.columns.Lens.{Lens}

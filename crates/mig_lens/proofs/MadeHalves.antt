@@ -10,14 +10,14 @@ use Rattle.sql_base.specs.declared.values.Ty.TheVariants.{Bigint, Text, Boolean}
 use Rattle.sql_base.specs.declared.values.Value.{Value}
 use Rattle.sql_base.specs.declared.values.Value.TheVariants as value
 use Rattle.sql_base.specs.declared.values.Value.TheVariants.{Null}
-use Rattle.sql_base.specs.Eval.{eval}
-use Rattle.sql_base.specs.Laws.{Sound}
+use Rattle.sql_eval.specs.Eval.{eval}
+use Rattle.sql_eval.specs.Laws.{Sound}
 use Rattle.sql_base.specs.Outcome.{and_then, every}
-use Rattle.sql_base.specs.Shape.{fits_columns, has_type, is_integer, row_fits}
-use Rattle.sql_base.specs.Typing.{Typed, same, type_of}
-use Rattle.sql_base.specs.Value.{Outcome}
-use Rattle.sql_base.proofs.Fitting.{fits_suits}
-use Rattle.sql_base.proofs.Soundness.{sound}
+use Rattle.sql_base.specs.Fit.{fits_columns, has_type, is_integer, row_fits}
+use Rattle.sql_eval.specs.Typing.{Typed, same, type_of}
+use Rattle.sql_eval.specs.Value.{Outcome}
+use Rattle.sql_eval.proofs.Fitting.{fits_suits}
+use Rattle.sql_eval.proofs.Soundness.{sound}
 use Rattle.mig_lens.specs.declared.columns.Cell.{Cell}
 use Rattle.mig_lens.specs.declared.columns.Cell.TheVariants.{Carry, Make, Still}
 use Rattle.mig_lens.specs.Lens.{all_carry, carries, cell_fits, cell_types, cells_fit, cells_type, is_of_type, made, outcomes, types_as, value_before}

@@ -9,8 +9,9 @@ use Rattle.sql_base.specs.declared.exprs.Expr.{Expr}
 use Rattle.sql_base.specs.declared.shapes.Schema.{Schema}
 use Rattle.sql_base.specs.declared.shapes.Shape.{Shape}
 use Rattle.sql_base.specs.Outcome.{and_then, every}
-use Rattle.sql_base.specs.Shape.{has_type, max_columns}
-use Rattle.sql_base.specs.Typing.{type_of}
+use Rattle.sql_base.specs.Fit.{has_type}
+use Rattle.sql_eval.specs.Shape.{max_columns}
+use Rattle.sql_eval.specs.Typing.{type_of}
 use Rattle.mig_lens.specs.declared.columns.Lens.{Lens}
 use Rattle.mig_lens.specs.declared.faults.Place.{Place}
 use Rattle.mig_lens.specs.declared.faults.PlanFault.{PlanFault}

@@ -6,7 +6,8 @@ use Rattle.sql_base.specs.declared.shapes.Schema.{Schema}
 use Rattle.sql_base.specs.declared.shapes.Shape.{Shape}
 use Rattle.sql_base.specs.declared.values.Value.{Value}
 use Rattle.sql_base.specs.declared.values.Value.TheVariants.{Null}
-use Rattle.sql_base.specs.Shape.{WellFormed, row_fits}
+use Rattle.sql_base.specs.Fit.{row_fits}
+use Rattle.sql_eval.specs.Shape.{WellFormed}
 use Rattle.mig_lens.specs.declared.columns.Lens.{Lens}
 use Rattle.mig_lens.specs.declared.migrations.Migration.{Migration}
 use Rattle.mig_lens.specs.declared.migrations.Op.{Op}

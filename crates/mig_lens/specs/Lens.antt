@@ -11,11 +11,11 @@ use Rattle.sql_base.specs.declared.shapes.Shape.{Shape}
 use Rattle.sql_base.specs.declared.values.Ty.{Ty}
 use Rattle.sql_base.specs.declared.values.Value.{Value}
 use Rattle.sql_base.specs.declared.values.Value.TheVariants.{Null}
-use Rattle.sql_base.specs.Eval.{eval}
+use Rattle.sql_eval.specs.Eval.{eval}
 use Rattle.sql_base.specs.Outcome.{every}
-use Rattle.sql_base.specs.Shape.{has_type}
-use Rattle.sql_base.specs.Typing.{Typed, same, fits as type_fits, type_of}
-use Rattle.sql_base.specs.Value.{Outcome}
+use Rattle.sql_base.specs.Fit.{has_type}
+use Rattle.sql_eval.specs.Typing.{Typed, same, fits as type_fits, type_of}
+use Rattle.sql_eval.specs.Value.{Outcome}
 use Rattle.mig_lens.specs.declared.columns.Cell.{Cell}
 use Rattle.mig_lens.specs.declared.columns.Cell.TheVariants.{Carry, Make, Still}
 use Rattle.mig_lens.specs.declared.columns.Lens.{Lens}

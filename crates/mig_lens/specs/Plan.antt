@@ -13,10 +13,11 @@ use Rattle.sql_base.specs.declared.shapes.Schema.{Schema}
 use Rattle.sql_base.specs.declared.shapes.Shape.{Shape}
 use Rattle.sql_base.specs.declared.shapes.Unique.{Unique}
 use Rattle.sql_base.specs.Outcome.{and_then, every}
-use Rattle.sql_base.specs.Shape.{has_type, is_condition, max_columns}
+use Rattle.sql_base.specs.Fit.{has_type}
+use Rattle.sql_eval.specs.Shape.{is_condition, max_columns}
 use Rattle.sql_base.specs.Tree.{names_column}
-use Rattle.sql_base.specs.Typing.{type_of}
-use Rattle.sql_base.specs.Value.{is_null}
+use Rattle.sql_eval.specs.Typing.{type_of}
+use Rattle.sql_eval.specs.Value.{is_null}
 use Rattle.mig_lens.specs.declared.columns.Cell.{Cell}
 use Rattle.mig_lens.specs.declared.columns.Cell.TheVariants.{Carry, Make, Still}
 use Rattle.mig_lens.specs.declared.columns.Lens.{Lens}

@@ -2,7 +2,7 @@
 
 ghost use Rattle.std.specs.Prelude.{◌≡◌, ◌<◌, ◌^◌, [], ◌∷◌, codes, length, map, IfNone, IfOk};
 ghost use Rattle.sql_base.specs.Outcome.{Gives};
-ghost use Rattle.sql_base.specs.Shape.{max_columns};
+ghost use Rattle.sql_eval.specs.Shape.{max_columns};
 ghost use Rattle.mig_lens.specs.Plan as spec;
 
 use crate::columns::{Cell, Lens};
@@ -11,7 +11,7 @@ use crate::migrations::ColumnDef;
 use crate::planning::Draft;
 use crate::plans::{Fate, Plan};
 use crate::tables::{Table, has_column, has_constraint, table_meant};
-use sql_base::operate::is_null;
+use sql_eval::operate::is_null;
 use sql_base::{
     Check, Column, Copying, Expr, List, Name, NoMemory, Schema, Shape, Unique, has_type,
 };

@@ -4,13 +4,14 @@ ghost use Rattle.std.specs.Prelude.{◌≡◌, ◌+◌, ◌<◌, ◌^◌, length
 ghost use Rattle.std.specs.Option.{option_copied};
 ghost use Rattle.std.specs.List.{zip};
 ghost use Rattle.mig_lens.specs.Lens.{types_as};
-ghost use Rattle.sql_base.specs.Typing.{type_of};
+ghost use Rattle.sql_eval.specs.Typing.{type_of};
 ghost use Rattle.mig_lens.specs.Plan as spec;
 
 use crate::faults::{Member, Place};
 use crate::migrations::{ColumnDef, Op};
 use crate::tables::shape_numbered;
-use sql_base::{Check, Expr, NoMemory, Schema, Shape, Ty, TypeFault, names_column, type_of};
+use sql_base::{Check, Expr, NoMemory, Schema, Shape, Ty, TypeFault, names_column};
+use sql_eval::type_of;
 use std::alloc::Global;
 
 /// Whether the expression has this type over the shape, or that of NULL.

@@ -7,7 +7,8 @@ ghost use Rattle.sql_base.specs.Outcome.{Gives};
 ghost use Rattle.mig_lens.specs.Lens as spec;
 
 use crate::columns::{Cell, Lens};
-use sql_base::{Copying, EvalFault, List, NoMemory, Shape, Value, eval};
+use sql_base::{Copying, EvalFault, List, NoMemory, Shape, Value};
+use sql_eval::eval;
 use std::alloc::Global;
 
 /// The value at this place, or NULL past the end.

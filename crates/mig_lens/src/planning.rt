@@ -2,7 +2,7 @@
 
 ghost use Rattle.std.specs.Prelude.{◌≡◌, ◌≤◌, length, IfOk};
 ghost use Rattle.sql_base.specs.Outcome.{Gives};
-ghost use Rattle.sql_base.specs.Shape.{max_columns};
+ghost use Rattle.sql_eval.specs.Shape.{max_columns};
 ghost use Rattle.mig_lens.specs.Plan as spec;
 
 use crate::adding::{MAX_COLUMNS, column_added, columns_fault};

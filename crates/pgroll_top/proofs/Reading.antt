@@ -1,9 +1,9 @@
 -- Each line reads as something.
 use Rattle.std.proofs.Common.{ℕ, List, Option, None, Some, MatchOption}
-use Rattle.sql_base.specs.Small.{Reads}
-use Rattle.sql_base.specs.SmallSteps.{found_in}
+use Rattle.sql_small.specs.Small.{Reads}
+use Rattle.sql_small.specs.SmallSteps.{found_in}
 use Rattle.sql_base.specs.declared.stmts.Stmt.{Stmt}
-use Rattle.sql_base.proofs.SmallReading.{found_in_reads}
+use Rattle.sql_small.proofs.SmallReading.{found_in_reads}
 use Rattle.roll_core.specs.declared.model.Reading.{Reading}
 use Rattle.roll_core.specs.declared.model.Reading.TheVariants.{Stmt as Read, Syntax}
 use Rattle.pgroll_top.specs.Work.{ReadsAs}

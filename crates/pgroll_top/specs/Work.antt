@@ -1,7 +1,7 @@
 -- Histories, and what it means that a history does the work of an input.
 use Rattle.std.specs.Prelude.{◌≡◌, ◌⊎◌, ℕ, List, [], ◌∷◌, ◌++◌, codes}
 use Rattle.sql_base.specs.declared.stmts.Stmt.{Stmt}
-use Rattle.sql_base.specs.Small.{Reads}
+use Rattle.sql_small.specs.Small.{Reads}
 use Rattle.roll_core.specs.declared.model.Entry.{Entry}
 use Rattle.roll_core.specs.declared.model.Event.TheVariants.{Said}
 use Rattle.roll_core.specs.declared.model.Reading.{Reading}

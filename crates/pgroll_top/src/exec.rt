@@ -18,7 +18,7 @@ use crate::report::line_of;
 use pg_io::{Sink, write_whole};
 use roll_core::Core;
 use roll_core::model::Reply;
-use sql_base::{Code, Name, NoMemory, Stmt, small};
+use sql_base::{Code, Name, NoMemory, Stmt};
 use std::alloc::Global;
 
 // What the engine answers to a line that goes through this path. A line that can't be read for want of memory
@@ -26,7 +26,7 @@ use std::alloc::Global;
 fn answer(alloc: Global, core: &mut Core, path: &[Name], line: &[u8]) -> Reply
     ensures { (reading : Reading) × ReadsAs line.now reading × Step core.old (Said path.now reading) result core.new }
 {
-    match small::read(alloc, line) {
+    match sql_small::read(alloc, line) {
         Ok(found) => said(core, path, &found, line),
         Err(_) => refused(Code::C53200),
     }

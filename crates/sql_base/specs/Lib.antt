@@ -1,13 +1,5 @@
-pub mod Cast
-pub mod Eval
-pub mod Laws
+pub mod Fit
 pub mod Outcome
-pub mod Row
-pub mod Shape
-pub mod Small
-pub mod SmallSteps
 pub mod Text
 pub mod Tree
-pub mod Typing
-pub mod Value
 pub mod Weight

@@ -1,7 +1,7 @@
 //! Rows that fit a shape.
 
 ghost use Rattle.std.specs.Prelude.{◌≡◌};
-ghost use Rattle.sql_base.specs.Shape as spec;
+ghost use Rattle.sql_base.specs.Fit as spec;
 
 use crate::shapes::{Column, Shape};
 use crate::values::{Ty, Value};

@@ -1,5 +1,5 @@
 use Rattle.std.proofs.Common.{◌≡◌, drop}
-use Rattle.sql_base.specs.Shape as spec
+use Rattle.sql_base.specs.Fit as spec
 use Rattle.sql_base.proofs.rows.fits_columns.Given as goal
 
 abbrev pub invariant-loop-at : goal.invariant-loop-at

@@ -1,6 +1,0 @@
-use Rattle.sql_base.proofs.Fitting.{fits_suits}
-use Rattle.sql_base.proofs.Soundness.{sound}
-use Rattle.sql_base.proofs.laws.typed_values_are_of_their_types.Goals as goal
-
-pub returns : goal.returns
-returns c = λ shape row e h. sound shape row e (record { columns = λ name. fits_suits name shape.columns row h })

@@ -1,5 +1,0 @@
-use Rattle.sql_base.proofs.Naming.{looks_at_named_columns}
-use Rattle.sql_base.proofs.laws.values_rest_on_named_columns.Goals as goal
-
-pub returns : goal.returns
-returns c = looks_at_named_columns

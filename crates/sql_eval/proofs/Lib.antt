@@ -1,0 +1,10 @@
+pub mod Branches
+pub mod Calls
+pub mod Examples
+pub mod Fitting
+pub mod Naming
+pub mod NoZero
+pub mod Operators
+pub mod Reading
+pub mod Soundness
+pub mod Trimming

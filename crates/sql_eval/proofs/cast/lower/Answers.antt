@@ -1,0 +1,6 @@
+use Rattle.std.proofs.Common.{rules}
+use Rattle.sql_eval.proofs.NoZero.{has_zero-lower}
+use Rattle.sql_eval.proofs.cast.lower.Goals as goal
+
+pub from_string-requires : goal.from_string-requires
+from_string-requires c = search (rules, has_zero-lower)

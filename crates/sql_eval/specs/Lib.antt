@@ -1,0 +1,7 @@
+pub mod Cast
+pub mod Eval
+pub mod Laws
+pub mod Row
+pub mod Shape
+pub mod Typing
+pub mod Value

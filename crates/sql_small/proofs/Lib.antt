@@ -1,0 +1,3 @@
+pub mod SmallLiterals
+pub mod SmallReading
+pub mod SmallTokens

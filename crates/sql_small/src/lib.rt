@@ -1,0 +1,6 @@
+//! The small reader of lines, until the whole grammar is read.
+#![tactic(auto)]
+
+mod small;
+
+pub use small::{a_text_reads_once, read};
