@@ -82,3 +82,7 @@ abbrev pub AddedColumnsLoseNothing : Type 0
 AddedColumnsLoseNothing =
     (old : Schema) (next_table : ℕ) (m : Migration) (plan : Plan) → IsSchema old → list_all adds_column m.operations ≡ true → plan_of old next_table m ≡ Ok plan →
     (number : ℕ) (lens : Lens) → lens_of plan number ≡ Some lens → all_carry lens.old_cols ≡ true
+
+-- The new version's tables have different numbers too, and well-formed shapes.
+abbrev pub PlansKeepSchemas : Type 0
+PlansKeepSchemas = (old : Schema) (next_table : ℕ) (m : Migration) (plan : Plan) → IsSchema old → plan_of old next_table m ≡ Ok plan → IsSchema plan.schema

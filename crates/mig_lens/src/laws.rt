@@ -1,6 +1,6 @@
 //! The laws of lenses and plans. Each is the contract of a function that does nothing.
 
-ghost use Rattle.mig_lens.specs.Laws.{ForwardFits, BackwardFits, BackwardOfForward, PlannedLensesJoin, AddedColumnsLoseNothing};
+ghost use Rattle.mig_lens.specs.Laws.{ForwardFits, BackwardFits, BackwardOfForward, PlannedLensesJoin, AddedColumnsLoseNothing, PlansKeepSchemas};
 
 /// A half that is made from one that fits its shape fits the other shape, and has the same key.
 ///
@@ -23,4 +23,10 @@ pub fn nothing_is_lost_forward()
 pub fn planned_lenses_join()
     ensures join { PlannedLensesJoin }
     ensures carry { AddedColumnsLoseNothing }
+{}
+
+/// The tables of a plan's new version have different numbers and well-formed shapes, for every schema of which that
+/// holds.
+pub fn planned_schemas_are_well_formed()
+    ensures { PlansKeepSchemas }
 {}
