@@ -1,6 +1,6 @@
 -- The lenses of a plan: table by table, and operation by operation.
 use Rattle.std.proofs.Common.{◌≡◌, ◌∙◌, ℕ, zero, suc, ◌+◌, List, [], ◌∷◌, ◌++◌, Bool, true, false, not, ◌&&◌, ◌||◌, Option, Some, None, Ok, Err, if◌then◌else◌, length, map, ap, refl, sym, subst, arith, append_assoc, append-nil}
-use Rattle.std.specs.Prelude.{◌==◌, codes, slice_index_or, find, nat_le}
+use Rattle.std.specs.Prelude.{◌==◌, codes, slice_index_or, find, is_some, nat_le}
 use Rattle.std.specs.List.{list_all, list_any, zip}
 use Rattle.std.specs.Option.{option_map_or, ok_or, option_and_then, option_map}
 use Rattle.std.proofs.lemmas.Bool.{false≢true}
@@ -11,7 +11,7 @@ use Rattle.sql_base.specs.declared.shapes.Schema.{Schema}
 use Rattle.sql_base.specs.declared.shapes.Shape.{Shape}
 use Rattle.sql_base.specs.Outcome.{and_then, every}
 use Rattle.sql_base.specs.Fit.{has_type}
-use Rattle.sql_eval.specs.Shape.{WellFormed, is_condition, max_columns}
+use Rattle.sql_eval.specs.Shape.{WellFormed, all_different, is_condition, max_columns}
 use Rattle.sql_eval.specs.Typing.{type_of}
 use Rattle.mig_lens.specs.declared.columns.Lens.{Lens}
 use Rattle.mig_lens.specs.declared.faults.Place.{Place}
@@ -26,12 +26,12 @@ use Rattle.mig_lens.specs.declared.planning.Draft.{Draft}
 use Rattle.mig_lens.specs.declared.plans.Fate.{Fate}
 use Rattle.mig_lens.specs.declared.plans.Fate.TheVariants.{Kept}
 use Rattle.mig_lens.specs.declared.plans.Plan.{Plan}
-use Rattle.mig_lens.specs.Laws.{AddedColumnsLoseNothing, IsSchema, PlannedLensesJoin, PlansKeepSchemas, numbers_differ}
+use Rattle.mig_lens.specs.Laws.{AddedColumnsLoseNothing, HasFates, HasLenses, IsSchema, KeepsAll, KeepsTables, OfAddedColumns, PlannedLensesJoin, PlansKeepSchemas, numbers_differ}
 use Rattle.mig_lens.specs.Lens.{cell_fits, cell_types, cells_fit, types_as}
 use Rattle.mig_lens.specs.Plan.{Step, Table, all_done, bad_check, bad_in, bad_up, begun, carried, cell_of, check_place, checks_of, column_added, column_fault, column_faults, column_of, done, earlier, fate_with, first, first_bad, has_column, in_place, is_first, is_taken, kept, lens_in, lens_of, plan_of, plan_with, shape_numbered, shape_with, table_meant, table_numbered, table_with, when, with_cell, without_fault}
 use Rattle.mig_lens.proofs.WiderShapes.{Wider, first_shape, grown_shape, whole_shape}
 use Rattle.mig_lens.proofs.Growing.{Hangs, first_lens, grown_lens, is_fresh}
-use Rattle.mig_lens.proofs.MadeHalves.{all_true, and_then_ok}
+use Rattle.mig_lens.proofs.MadeHalves.{all_true, and_then_ok, both}
 
 -- ---- tables with different numbers
 
@@ -102,6 +102,7 @@ all_found (t ∷ ts) d =
 -- ---- the tables of the old version, of the new version so far, and their fates, side by side
 
 pub record Row (old new : Schema) (o t : Table) (f : ℕ × Fate) : Type 0 where
+  name : t.0 ≡ o.0
   number : t.1 ≡ o.1
   fate_number : f.0 ≡ o.1
   lens : Lens
@@ -115,16 +116,20 @@ Rows old new [] [] [] = Unit {0}
 Rows old new (o ∷ os) (t ∷ ts) (f ∷ fs) = Row old new o t f × Rows old new os ts fs
 Rows old new _ _ _ = ⊥
 
-pub same_numbers : (old new : Schema) (os ts : List Table) (fs : List (ℕ × Fate)) → Rows old new os ts fs → numbers ts ≡ numbers os
-same_numbers old new [] [] [] r = refl
-same_numbers old new [] [] (f ∷ fs) r = absurd r
-same_numbers old new [] (t ∷ ts) fs r = absurd r
-same_numbers old new (o ∷ os) [] fs r = absurd r
-same_numbers old new (o ∷ os) (t ∷ ts) [] r = absurd r
-same_numbers old new (o ∷ os) (t ∷ ts) (f ∷ fs) r =
-    let here = r.0.number in
-    let there = same_numbers old new os ts fs r.1 in
+-- What each row's two tables have in common, all of them have.
+in_common : {X : Type 0} (of : Table → X) (old new : Schema) (os ts : List Table) (fs : List (ℕ × Fate)) → ((o t : Table) (f : ℕ × Fate) → Row old new o t f → of t ≡ of o) → Rows old new os ts fs → map of ts ≡ map of os
+in_common of old new [] [] [] same r = refl
+in_common of old new [] [] (f ∷ fs) same r = absurd r
+in_common of old new [] (t ∷ ts) fs same r = absurd r
+in_common of old new (o ∷ os) [] fs same r = absurd r
+in_common of old new (o ∷ os) (t ∷ ts) [] same r = absurd r
+in_common of old new (o ∷ os) (t ∷ ts) (f ∷ fs) same r =
+    let here = same o t f r.0 in
+    let there = in_common of old new os ts fs same r.1 in
     cc
+
+pub same_numbers : (old new : Schema) (os ts : List Table) (fs : List (ℕ × Fate)) → Rows old new os ts fs → numbers ts ≡ numbers os
+same_numbers old new os ts fs r = in_common (λ t. t.1) old new os ts fs (λ o t f row. row.number) r
 
 -- ---- one column more
 
@@ -157,6 +162,7 @@ put_at_its_own old new table o f column up fresh row =
     let in_old : shape_numbered old table.1 ≡ Some o.2 = ap (shape_numbered old) row.number ∙ row.in_old in
     let up_types : bad_up 0 column (Some o.2) up ≡ None = ap (λ s. bad_up 0 column s up) (sym in_old) ∙ fresh.up_types 0 in
     record {
+      name = row.name;
       number = row.number;
       fate_number = row.fate_number;
       lens = record row.lens { new_cols = row.lens.new_cols ++ cell_of column up ∷ [] };
@@ -336,6 +342,7 @@ first_rows old new (t ∷ ts) fates is found h =
     let fate = kept_is t a.0 a.1 in
     let in_old : shape_numbered old t.1 ≡ Some t.2 = ap (option_map (λ u. u.2)) found.0 in
     let here : Row old new t t a.0 = record {
+      name = refl;
       number = refl;
       fate_number = ap (λ f. f.0) fate;
       lens = record { new_cols = carried t.2.columns; old_cols = carried t.2.columns };
@@ -439,6 +446,7 @@ pub planned_schema : PlansKeepSchemas
 planned_schema old next_table m plan is h =
     let rows = planned_rows old next_table m plan is h in
     record {
+      names = ap all_different (in_common (λ t. t.0) old plan.schema old.tables plan.schema.tables plan.fates (λ o t f row. row.name) rows) ∙ is.names;
       numbers = ap numbers_differ (same_numbers old plan.schema old.tables plan.schema.tables plan.fates rows) ∙ is.numbers;
       shapes = λ number shape k.
           let found = shape_of_table (table_numbered plan.schema number) shape k in
@@ -447,3 +455,55 @@ planned_schema old next_table m plan is h =
           let in_new : shape_numbered plan.schema row.o.1 ≡ Some t.2 = ap (shape_numbered plan.schema) row.same_number ∙ ap (option_map (λ u. u.2)) found.1 in
           subst WellFormed found.2 (whole_shape row.o.2 t.2 (is.shapes row.o.1 row.o.2 row.in_old) (row.wider t.2 in_new));
     }
+
+-- ---- the tables and their fates
+
+pub keeps_tables : OfAddedColumns KeepsTables
+keeps_tables old next_table m plan is adds h =
+    in_common {X = List ℕ × ℕ} (λ t. (t.0, t.1)) old plan.schema old.tables plan.schema.tables plan.fates (λ o t f row. let name = row.name in let number = row.number in cc) (planned_rows old next_table m plan is h)
+
+fates_of : (old new : Schema) (os ts : List Table) (fs : List (ℕ × Fate)) → Rows old new os ts fs → map (λ f. f.0) fs ≡ numbers os
+fates_of old new [] [] [] r = refl
+fates_of old new [] [] (f ∷ fs) r = absurd r
+fates_of old new [] (t ∷ ts) fs r = absurd r
+fates_of old new (o ∷ os) [] fs r = absurd r
+fates_of old new (o ∷ os) (t ∷ ts) [] r = absurd r
+fates_of old new (o ∷ os) (t ∷ ts) (f ∷ fs) r =
+    let here = r.0.fate_number in
+    let there = fates_of old new os ts fs r.1 in
+    cc
+
+pub has_fates : OfAddedColumns HasFates
+has_fates old next_table m plan is adds h = fates_of old plan.schema old.tables plan.schema.tables plan.fates (planned_rows old next_table m plan is h)
+
+all_kept : (old new : Schema) (os ts : List Table) (fs : List (ℕ × Fate)) → Rows old new os ts fs → list_all (λ f. is_some (lens_in f.1)) fs ≡ true
+all_kept old new [] [] [] r = refl
+all_kept old new [] [] (f ∷ fs) r = absurd r
+all_kept old new [] (t ∷ ts) fs r = absurd r
+all_kept old new (o ∷ os) [] fs r = absurd r
+all_kept old new (o ∷ os) (t ∷ ts) [] r = absurd r
+all_kept old new (o ∷ os) (t ∷ ts) (f ∷ fs) r =
+    all_true (is_some (lens_in f.1)) (list_all (λ f. is_some (lens_in f.1)) fs) (ap (λ fate. is_some (lens_in fate)) r.0.is_kept) (all_kept old new os ts fs r.1)
+
+pub keeps_all : OfAddedColumns KeepsAll
+keeps_all old next_table m plan is adds h = all_kept old plan.schema old.tables plan.schema.tables plan.fates (planned_rows old next_table m plan is h)
+
+-- Each table is found by its number exactly where a lens is.
+found_alike : (os : List Table) (fs : List (ℕ × Fate)) (number : ℕ) → map (λ f. f.0) fs ≡ numbers os → list_all (λ f. is_some (lens_in f.1)) fs ≡ true → is_some (option_and_then (λ f. lens_in f.1) (find (λ f. f.0 == number) fs)) ≡ is_some (find (λ o. o.1 == number) os)
+found_alike [] [] number same kept = refl
+found_alike [] (f ∷ fs) number same kept = cc
+found_alike (o ∷ os) [] number same kept = cc
+found_alike (o ∷ os) (f ∷ fs) number same kept =
+    let here : f.0 ≡ o.1 = cc in
+    let rest : map (λ f. f.0) fs ≡ numbers os = cc in
+    let lens = both (is_some (lens_in f.1)) (list_all (λ f. is_some (lens_in f.1)) fs) kept in
+    by_test (found_alike os fs number rest lens.1) lens.0 (o.1 == number) refl (ap (λ n. n == number) here)
+  where
+    by_test : is_some (option_and_then (λ f. lens_in f.1) (find (λ f. f.0 == number) fs)) ≡ is_some (find (λ o. o.1 == number) os) → is_some (lens_in f.1) ≡ true → (b : Bool) → (o.1 == number) ≡ b → (f.0 == number) ≡ (o.1 == number) → is_some (option_and_then (λ f. lens_in f.1) (if f.0 == number then Some f else find (λ f. f.0 == number) fs)) ≡ is_some (if o.1 == number then Some o else find (λ o. o.1 == number) os)
+    by_test more lens true is alike = rw (alike ∙ is, is) lens
+    by_test more lens false is alike = rw (alike ∙ is, is) more
+
+pub has_lenses : OfAddedColumns HasLenses
+has_lenses old next_table m plan is adds h number =
+    let rows = planned_rows old next_table m plan is h in
+    found_alike old.tables plan.fates number (fates_of old plan.schema old.tables plan.schema.tables plan.fates rows) (all_kept old plan.schema old.tables plan.schema.tables plan.fates rows)
