@@ -2,3 +2,5 @@ pub mod Growing
 pub mod MadeHalves
 pub mod Places
 pub mod Planned
+pub mod WiderShapes
+pub mod Widening

@@ -1,6 +1,7 @@
 -- Halves that are made by a lens: they fit, keep the key, and come back where nothing is lost.
 use Rattle.std.proofs.Common.{zero-add, add-zero, ◌≡◌, ◌∙◌, ℕ, zero, suc, ◌+◌, List, [], ◌∷◌, Bool, true, false, ◌&&◌, Option, Some, None, Result, Ok, Err, length, ap, refl, sym, subst, arith}
 use Rattle.std.specs.Prelude.{slice_get, slice_index_or, unwrap_or}
+use Rattle.std.specs.List.{list_any}
 use Rattle.std.specs.Option.{option_map_or}
 use Rattle.std.proofs.lemmas.Bool.Decides.{nat_tests}
 use Rattle.sql_base.specs.declared.shapes.Column.{Column}
@@ -21,7 +22,8 @@ use Rattle.sql_eval.proofs.Soundness.{sound}
 use Rattle.mig_lens.specs.declared.columns.Cell.{Cell}
 use Rattle.mig_lens.specs.declared.columns.Cell.TheVariants.{Carry, Make, Still}
 use Rattle.mig_lens.specs.Lens.{all_carry, carries, cell_fits, cell_types, cells_fit, cells_type, is_of_type, made, outcomes, types_as, value_before}
-use Rattle.mig_lens.specs.Laws.{ForwardFits, BackwardFits, BackwardOfForward}
+use Rattle.mig_lens.specs.Laws.{ForwardFits, BackwardFits, BackwardOfForward, ForwardCarries, BackwardCarries, UnmadeNeverFaults}
+use Rattle.mig_lens.specs.Layout.{is_make}
 
 pub both : (a b : Bool) → (a && b) ≡ true → (a ≡ true) × (b ≡ true)
 both true true h = (refl, refl)
@@ -201,3 +203,24 @@ backward_of_forward lens old new half previous before made_half f w all h e =
     let row = both (fits_columns old.columns half) (is_integer (slice_index_or half old.key Null)) h in
     let lengths = cells_length new.columns old.columns lens.old_cols fit.1 ∙ sym (row_length old.columns half row.0) in
     comes_back new made_half before 0 lens.old_cols half all lengths (λ k i c. carried_value old half previous 0 lens.new_cols made_half i k (w.both_ways i k ∙ c) e)
+
+pub forward_carries : ForwardCarries
+forward_carries lens old half previous made_half i j e c = carried_value old half previous 0 lens.new_cols made_half i j c e
+
+pub backward_carries : BackwardCarries
+backward_carries lens new half previous made_half j i e c = carried_value new half previous 0 lens.old_cols made_half j i c e
+
+never_faults : (other : Shape) (half : List Value) (previous : Option (List Value)) (at : ℕ) (cells : List Cell) → list_any is_make cells ≡ false → (values : List Value) × (every (outcomes other half previous at cells) ≡ Ok values)
+never_faults other half previous at [] h = ([], refl)
+never_faults other half previous at (Carry from ∷ cells) h =
+    let rest = never_faults other half previous (at + 1) cells h in
+    let first = slice_index_or half from Null in
+    (first ∷ rest.0, ap (λ r. and_then r (λ values. Ok (first ∷ values))) rest.1)
+never_faults other half previous at (Make up ∷ cells) h = cc
+never_faults other half previous at (Still x ∷ cells) h =
+    let rest = never_faults other half previous (at + 1) cells h in
+    let first = unwrap_or (value_before previous at) x in
+    (first ∷ rest.0, ap (λ r. and_then r (λ values. Ok (first ∷ values))) rest.1)
+
+pub unmade_never_faults : UnmadeNeverFaults
+unmade_never_faults lens old half previous h = never_faults old half previous 0 lens.new_cols h

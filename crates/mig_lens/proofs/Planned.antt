@@ -1,21 +1,22 @@
 -- The lenses of a plan: table by table, and operation by operation.
 use Rattle.std.proofs.Common.{◌≡◌, ◌∙◌, ℕ, zero, suc, ◌+◌, List, [], ◌∷◌, ◌++◌, Bool, true, false, not, ◌&&◌, ◌||◌, Option, Some, None, Ok, Err, if◌then◌else◌, length, map, ap, refl, sym, subst, arith, append_assoc, append-nil}
-use Rattle.std.specs.Prelude.{◌==◌, codes, slice_index_or, find, nat_le}
-use Rattle.std.specs.List.{list_any, zip}
-use Rattle.std.specs.Option.{ok_or, option_and_then, option_map}
+use Rattle.std.specs.Prelude.{◌==◌, codes, slice_index_or, find, is_some, nat_le}
+use Rattle.std.specs.List.{list_all, list_any, zip}
+use Rattle.std.specs.Option.{option_map_or, ok_or, option_and_then, option_map}
 use Rattle.std.proofs.lemmas.Bool.{false≢true}
 use Rattle.std.proofs.lemmas.Bool.Decides.{nat_tests}
 use Rattle.sql_base.specs.declared.exprs.Expr.{Expr}
+use Rattle.sql_base.specs.declared.shapes.Check.{Check}
 use Rattle.sql_base.specs.declared.shapes.Schema.{Schema}
 use Rattle.sql_base.specs.declared.shapes.Shape.{Shape}
 use Rattle.sql_base.specs.Outcome.{and_then, every}
 use Rattle.sql_base.specs.Fit.{has_type}
-use Rattle.sql_eval.specs.Shape.{max_columns}
+use Rattle.sql_eval.specs.Shape.{WellFormed, all_different, is_condition, max_columns}
 use Rattle.sql_eval.specs.Typing.{type_of}
 use Rattle.mig_lens.specs.declared.columns.Lens.{Lens}
 use Rattle.mig_lens.specs.declared.faults.Place.{Place}
 use Rattle.mig_lens.specs.declared.faults.PlanFault.{PlanFault}
-use Rattle.mig_lens.specs.declared.faults.PlanFault.TheVariants.{BadExpr, BadType, Limit, NoSuchTable}
+use Rattle.mig_lens.specs.declared.faults.PlanFault.TheVariants.{BadExpr, BadType, Exists, Limit, NoSuchTable}
 use Rattle.mig_lens.specs.declared.faults.Member.TheVariants as member
 use Rattle.mig_lens.specs.declared.migrations.ColumnDef.{ColumnDef}
 use Rattle.mig_lens.specs.declared.migrations.Migration.{Migration}
@@ -25,11 +26,12 @@ use Rattle.mig_lens.specs.declared.planning.Draft.{Draft}
 use Rattle.mig_lens.specs.declared.plans.Fate.{Fate}
 use Rattle.mig_lens.specs.declared.plans.Fate.TheVariants.{Kept}
 use Rattle.mig_lens.specs.declared.plans.Plan.{Plan}
-use Rattle.mig_lens.specs.Laws.{AddedColumnsLoseNothing, IsSchema, PlannedLensesJoin, numbers_differ}
+use Rattle.mig_lens.specs.Laws.{AddedColumnsLoseNothing, HasFates, HasLenses, IsSchema, KeepsAll, KeepsTables, OfAddedColumns, PlannedLensesJoin, PlansKeepSchemas, numbers_differ}
 use Rattle.mig_lens.specs.Lens.{cell_fits, cell_types, cells_fit, types_as}
-use Rattle.mig_lens.specs.Plan.{Step, Table, all_done, bad_check, bad_in, bad_up, begun, carried, cell_of, column_added, column_fault, column_faults, column_of, done, earlier, fate_with, first, first_bad, in_place, is_first, kept, lens_in, lens_of, plan_of, plan_with, shape_numbered, shape_with, table_meant, table_with, when, with_cell, without_fault}
+use Rattle.mig_lens.specs.Plan.{Step, Table, all_done, bad_check, bad_in, bad_up, begun, carried, cell_of, check_place, checks_of, column_added, column_fault, column_faults, column_of, done, earlier, fate_with, first, first_bad, has_column, in_place, is_first, is_taken, kept, lens_in, lens_of, plan_of, plan_with, shape_numbered, shape_with, table_meant, table_numbered, table_with, when, with_cell, without_fault}
+use Rattle.mig_lens.proofs.WiderShapes.{Wider, first_shape, grown_shape, whole_shape}
 use Rattle.mig_lens.proofs.Growing.{Hangs, first_lens, grown_lens, is_fresh}
-use Rattle.mig_lens.proofs.MadeHalves.{all_true, and_then_ok}
+use Rattle.mig_lens.proofs.MadeHalves.{all_true, and_then_ok, both}
 
 -- ---- tables with different numbers
 
@@ -99,33 +101,45 @@ all_found (t ∷ ts) d =
 
 -- ---- the tables of the old version, of the new version so far, and their fates, side by side
 
-pub record Row (old : Schema) (o t : Table) (f : ℕ × Fate) : Type 0 where
+pub record Row (old new : Schema) (o t : Table) (f : ℕ × Fate) : Type 0 where
+  name : t.0 ≡ o.0
   number : t.1 ≡ o.1
   fate_number : f.0 ≡ o.1
   lens : Lens
   is_kept : f.1 ≡ Kept lens
   hangs : Hangs o.2 t.2 lens
   in_old : shape_numbered old o.1 ≡ Some o.2
+  wider : (over : Shape) → shape_numbered new o.1 ≡ Some over → Wider o.2 t.2 over
 
-abbrev pub Rows : Schema → List Table → List Table → List (ℕ × Fate) → Type 0
-Rows old [] [] [] = Unit {0}
-Rows old (o ∷ os) (t ∷ ts) (f ∷ fs) = Row old o t f × Rows old os ts fs
-Rows old _ _ _ = ⊥
+abbrev pub Rows : Schema → Schema → List Table → List Table → List (ℕ × Fate) → Type 0
+Rows old new [] [] [] = Unit {0}
+Rows old new (o ∷ os) (t ∷ ts) (f ∷ fs) = Row old new o t f × Rows old new os ts fs
+Rows old new _ _ _ = ⊥
 
-pub same_numbers : (old : Schema) (os ts : List Table) (fs : List (ℕ × Fate)) → Rows old os ts fs → numbers ts ≡ numbers os
-same_numbers old [] [] [] r = refl
-same_numbers old [] [] (f ∷ fs) r = absurd r
-same_numbers old [] (t ∷ ts) fs r = absurd r
-same_numbers old (o ∷ os) [] fs r = absurd r
-same_numbers old (o ∷ os) (t ∷ ts) [] r = absurd r
-same_numbers old (o ∷ os) (t ∷ ts) (f ∷ fs) r = let here = r.0.number in let there = same_numbers old os ts fs r.1 in cc
+-- What each row's two tables have in common, all of them have.
+in_common : {X : Type 0} (of : Table → X) (old new : Schema) (os ts : List Table) (fs : List (ℕ × Fate)) → ((o t : Table) (f : ℕ × Fate) → Row old new o t f → of t ≡ of o) → Rows old new os ts fs → map of ts ≡ map of os
+in_common of old new [] [] [] same r = refl
+in_common of old new [] [] (f ∷ fs) same r = absurd r
+in_common of old new [] (t ∷ ts) fs same r = absurd r
+in_common of old new (o ∷ os) [] fs same r = absurd r
+in_common of old new (o ∷ os) (t ∷ ts) [] same r = absurd r
+in_common of old new (o ∷ os) (t ∷ ts) (f ∷ fs) same r =
+    let here = same o t f r.0 in
+    let there = in_common of old new os ts fs same r.1 in
+    cc
+
+pub same_numbers : (old new : Schema) (os ts : List Table) (fs : List (ℕ × Fate)) → Rows old new os ts fs → numbers ts ≡ numbers os
+same_numbers old new os ts fs r = in_common (λ t. t.1) old new os ts fs (λ o t f row. row.number) r
 
 -- ---- one column more
 
--- what is known of a new column of the table of this number
-record Fresh (old : Schema) (number : ℕ) (column : ColumnDef) (up : Option Expr) : Type 0 where
+-- what is known of a new column of a table
+record Fresh (old new : Schema) (table : Table) (column : ColumnDef) (up : Option Expr) : Type 0 where
   default_fits : has_type (Some column.ty) column.default ≡ true
-  up_types : (at : ℕ) → bad_up at column (shape_numbered old number) up ≡ None
+  up_types : (at : ℕ) → bad_up at column (shape_numbered old table.1) up ≡ None
+  room : nat_le max_columns (length table.2.columns) ≡ false
+  free : has_column column.name table ≡ false
+  checks_type : (over : Shape) → shape_numbered new table.1 ≡ Some over → list_all (λ check. is_condition (type_of over check.expr)) (checks_of column.check) ≡ true
 
 fresh_cell : (column : ColumnDef) (up : Option Expr) → is_fresh (cell_of column up) ≡ true
 fresh_cell column None = refl
@@ -143,37 +157,39 @@ fresh_types at before column (Some e) h = by_test (record { operation = at; memb
     by_test p true k = refl
     by_test p false k = cc
 
-put_at_its_own : (old : Schema) (table o : Table) (f : ℕ × Fate) (column : ColumnDef) (up : Option Expr) → Fresh old table.1 column up → Row old o table f → Row old o (table_with column table) (f.0, fate_with (cell_of column up) f.1)
-put_at_its_own old table o f column up fresh row =
+put_at_its_own : (old new : Schema) (table o : Table) (f : ℕ × Fate) (column : ColumnDef) (up : Option Expr) → Fresh old new table column up → Row old new o table f → Row old new o (table_with column table) (f.0, fate_with (cell_of column up) f.1)
+put_at_its_own old new table o f column up fresh row =
     let in_old : shape_numbered old table.1 ≡ Some o.2 = ap (shape_numbered old) row.number ∙ row.in_old in
     let up_types : bad_up 0 column (Some o.2) up ≡ None = ap (λ s. bad_up 0 column s up) (sym in_old) ∙ fresh.up_types 0 in
     record {
+      name = row.name;
       number = row.number;
       fate_number = row.fate_number;
       lens = record row.lens { new_cols = row.lens.new_cols ++ cell_of column up ∷ [] };
       is_kept = ap (fate_with (cell_of column up)) row.is_kept;
       hangs = grown_lens o.2 table.2 row.lens (shape_with table.0 column table.2) (column_of column) (cell_of column up) refl refl (fresh_cell column up) (fresh_fits o.2 column up fresh.default_fits) (fresh_types 0 o.2 column up up_types) row.hangs;
       in_old = row.in_old;
+      wider = λ over h. grown_shape o.2 table.2 over table.0 column fresh.room fresh.free fresh.default_fits (fresh.checks_type over (ap (shape_numbered new) row.number ∙ h)) (row.wider over h);
     }
 
-put_in_row : (old : Schema) (table o t : Table) (f : ℕ × Fate) (column : ColumnDef) (up : Option Expr) → Fresh old table.1 column up → ((t.1 == table.1) ≡ true → t ≡ table) → Row old o t f → Row old o (in_place (table_with column table) t) (with_cell table.1 (cell_of column up) f)
-put_in_row old table o t f column up fresh only row = rw same_test (by_test (t.1 == table.1) refl)
+put_in_row : (old new : Schema) (table o t : Table) (f : ℕ × Fate) (column : ColumnDef) (up : Option Expr) → Fresh old new table column up → ((t.1 == table.1) ≡ true → t ≡ table) → Row old new o t f → Row old new o (in_place (table_with column table) t) (with_cell table.1 (cell_of column up) f)
+put_in_row old new table o t f column up fresh only row = rw same_test (by_test (t.1 == table.1) refl)
   where
     same_test : (f.0 == table.1) ≡ (t.1 == table.1)
     same_test = ap (λ n. n == table.1) (row.fate_number ∙ sym row.number)
 
-    by_test : (b : Bool) → (t.1 == table.1) ≡ b → Row old o (if b then table_with column table else t) (if b then (f.0, fate_with (cell_of column up) f.1) else f)
-    by_test true h = put_at_its_own old table o f column up fresh (subst (λ u. Row old o u f) (only h) row)
+    by_test : (b : Bool) → (t.1 == table.1) ≡ b → Row old new o (if b then table_with column table else t) (if b then (f.0, fate_with (cell_of column up) f.1) else f)
+    by_test true h = put_at_its_own old new table o f column up fresh (subst (λ u. Row old new o u f) (only h) row)
     by_test false h = row
 
-put_in_rows : (old : Schema) (table : Table) (os ts : List Table) (fs : List (ℕ × Fate)) (column : ColumnDef) (up : Option Expr) → Fresh old table.1 column up → Only table ts → Rows old os ts fs → Rows old os (map (in_place (table_with column table)) ts) (map (with_cell table.1 (cell_of column up)) fs)
-put_in_rows old table [] [] [] column up fresh only r = tt
-put_in_rows old table [] [] (f ∷ fs) column up fresh only r = absurd r
-put_in_rows old table [] (t ∷ ts) fs column up fresh only r = absurd r
-put_in_rows old table (o ∷ os) [] fs column up fresh only r = absurd r
-put_in_rows old table (o ∷ os) (t ∷ ts) [] column up fresh only r = absurd r
-put_in_rows old table (o ∷ os) (t ∷ ts) (f ∷ fs) column up fresh only r =
-    (put_in_row old table o t f column up fresh only.0 r.0, put_in_rows old table os ts fs column up fresh only.1 r.1)
+put_in_rows : (old new : Schema) (table : Table) (os ts : List Table) (fs : List (ℕ × Fate)) (column : ColumnDef) (up : Option Expr) → Fresh old new table column up → Only table ts → Rows old new os ts fs → Rows old new os (map (in_place (table_with column table)) ts) (map (with_cell table.1 (cell_of column up)) fs)
+put_in_rows old new table [] [] [] column up fresh only r = tt
+put_in_rows old new table [] [] (f ∷ fs) column up fresh only r = absurd r
+put_in_rows old new table [] (t ∷ ts) fs column up fresh only r = absurd r
+put_in_rows old new table (o ∷ os) [] fs column up fresh only r = absurd r
+put_in_rows old new table (o ∷ os) (t ∷ ts) [] column up fresh only r = absurd r
+put_in_rows old new table (o ∷ os) (t ∷ ts) (f ∷ fs) column up fresh only r =
+    (put_in_row old new table o t f column up fresh only.0 r.0, put_in_rows old new table os ts fs column up fresh only.1 r.1)
 
 -- ---- operations
 
@@ -199,6 +215,25 @@ default_fits : (old : Schema) (at : ℕ) (table : Table) (column : ColumnDef) (u
 default_fits old at table column up h =
     not_false (has_type (Some column.ty) column.default) (when_none (not (has_type (Some column.ty) column.default)) (BadType (record { operation = at; member = member.Default })) (all_none (column_faults old at table column up) h 5))
 
+no_room : (old : Schema) (at : ℕ) (table : Table) (column : ColumnDef) (up : Option Expr) → column_fault old at table column up ≡ None → nat_le max_columns (length table.2.columns) ≡ false
+no_room old at table column up h = when_none (nat_le max_columns (length table.2.columns)) (Limit (codes "columns")) (all_none (column_faults old at table column up) h 6)
+
+or_right : (a b : Bool) → (a || b) ≡ false → b ≡ false
+or_right true b h = cc
+or_right false b h = h
+
+free_name : (old : Schema) (at : ℕ) (table : Table) (column : ColumnDef) (up : Option Expr) → column_fault old at table column up ≡ None → has_column column.name table ≡ false
+free_name old at table column up h =
+    or_right (option_map_or (has_column column.name) (table_numbered old table.1) false) (has_column column.name table) (when_none (is_taken (has_column column.name) old table) (Exists column.name) (all_none (column_faults old at table column up) h 0))
+
+checks_type : (over : Shape) (number at : ℕ) (later : List Step) (check : Option Check) → bad_check (Some over) number at later check ≡ None → list_all (λ check. is_condition (type_of over check.expr)) (checks_of check) ≡ true
+checks_type over number at later None h = refl
+checks_type over number at later (Some check) h = by_test (record { operation = check_place check.expr number at (at + 1) later; member = member.Check }) (is_condition (type_of over check.expr)) h
+  where
+    by_test : (p : Place) (b : Bool) → (if b then None else Some p) ≡ None → (b && true) ≡ true
+    by_test p true k = refl
+    by_test p false k = cc
+
 earlier_none : (p q : Option Place) → earlier p q ≡ None → (p ≡ None) × (q ≡ None)
 earlier_none None q h = (refl, h)
 earlier_none (Some p) None h = cc
@@ -221,7 +256,7 @@ bad_up_anywhere at other column (Some shape) (Some up) h = by_test (record { ope
 record Done (old : Schema) (at : ℕ) (op : Op) (draft next : Draft) : Type 0 where
   number : ℕ
   meant : next.meant ≡ draft.meant ++ number ∷ []
-  rows : (new : Schema) (later : List Step) → bad_in old new at later (op, number) ≡ None → numbers_differ (numbers old.tables) ≡ true → Rows old old.tables draft.plan.schema.tables draft.plan.fates → Rows old old.tables next.plan.schema.tables next.plan.fates
+  rows : (new : Schema) (later : List Step) → bad_in old new at later (op, number) ≡ None → numbers_differ (numbers old.tables) ≡ true → Rows old new old.tables draft.plan.schema.tables draft.plan.fates → Rows old new old.tables next.plan.schema.tables next.plan.fates
 
 ok_or_ok : {T E : Type 0} (o : Option T) (e : E) (x : T) → ok_or o e ≡ Ok x → o ≡ Some x
 ok_or_ok None e x h = cc
@@ -241,11 +276,17 @@ column_done old at name column up draft next h =
       number = table.1;
       meant = sym (ap (λ d. d.meant) b.1);
       rows = λ new later types differ rows.
-          let up_types = (earlier_none (bad_up at column (shape_numbered old table.1) up) (bad_check (shape_numbered new table.1) table.1 at later column.check) types).0 in
-          let fresh : Fresh old table.1 column up = record { default_fits = default_fits old at table column up b.0; up_types = λ other. bad_up_anywhere at other column (shape_numbered old table.1) up up_types } in
-          let differ_now : numbers_differ (numbers draft.plan.schema.tables) ≡ true = ap numbers_differ (same_numbers old old.tables draft.plan.schema.tables draft.plan.fates rows) ∙ differ in
+          let typed = earlier_none (bad_up at column (shape_numbered old table.1) up) (bad_check (shape_numbered new table.1) table.1 at later column.check) types in
+          let fresh : Fresh old new table column up = record {
+            default_fits = default_fits old at table column up b.0;
+            up_types = λ other. bad_up_anywhere at other column (shape_numbered old table.1) up typed.0;
+            room = no_room old at table column up b.0;
+            free = free_name old at table column up b.0;
+            checks_type = λ over h. checks_type over table.1 at later column.check (ap (λ s. bad_check s table.1 at later column.check) (sym h) ∙ typed.1);
+          } in
+          let differ_now : numbers_differ (numbers draft.plan.schema.tables) ≡ true = ap numbers_differ (same_numbers old new old.tables draft.plan.schema.tables draft.plan.fates rows) ∙ differ in
           let only = found_only _ draft.plan.schema.tables table differ_now found in
-          subst (λ d. Rows old old.tables d.plan.schema.tables d.plan.fates) b.1 (put_in_rows old table old.tables draft.plan.schema.tables draft.plan.fates column up fresh only rows);
+          subst (λ d. Rows old new old.tables d.plan.schema.tables d.plan.fates) b.1 (put_in_rows old new table old.tables draft.plan.schema.tables draft.plan.fates column up fresh only rows);
     }
 
 op_done : (old : Schema) (at : ℕ) (o : Op) (draft next : Draft) → done old at o draft ≡ Ok next → Done old at o draft next
@@ -262,7 +303,7 @@ op_done old at (op.DropConstraint table name up down) draft next h = cc
 record AllDone (old : Schema) (at : ℕ) (ops : List Op) (draft final : Draft) : Type 0 where
   meant_by : List ℕ
   meant : final.meant ≡ draft.meant ++ meant_by
-  rows : (new : Schema) → first_bad old new at (zip ops meant_by) ≡ None → numbers_differ (numbers old.tables) ≡ true → Rows old old.tables draft.plan.schema.tables draft.plan.fates → Rows old old.tables final.plan.schema.tables final.plan.fates
+  rows : (new : Schema) → first_bad old new at (zip ops meant_by) ≡ None → numbers_differ (numbers old.tables) ≡ true → Rows old new old.tables draft.plan.schema.tables draft.plan.fates → Rows old new old.tables final.plan.schema.tables final.plan.fates
 
 ops_done : (old : Schema) (ops : List Op) (at : ℕ) (draft final : Draft) → all_done old at ops draft ≡ Ok final → AllDone old at ops draft final
 ops_done old [] at draft final h =
@@ -270,7 +311,7 @@ ops_done old [] at draft final h =
     record {
       meant_by = [];
       meant = sym (ap (λ d. d.meant) is) ∙ sym (append-nil draft.meant);
-      rows = λ new types differ rows. subst (λ d. Rows old old.tables d.plan.schema.tables d.plan.fates) is rows;
+      rows = λ new types differ rows. subst (λ d. Rows old new old.tables d.plan.schema.tables d.plan.fates) is rows;
     }
 ops_done old (o ∷ ops) at draft final h =
     let a = and_then_ok (done old at o draft) (all_done old (at + 1) ops) final h in
@@ -293,29 +334,31 @@ kept_is table f h = by_test (nat_le (length table.2.columns) max_columns) h
     by_test true k = cc
     by_test false k = cc
 
-first_rows : (old : Schema) (ts : List Table) (fates : List (ℕ × Fate)) → IsSchema old → AllOf (λ t. find (λ u. u.1 == t.1) old.tables ≡ Some t) ts → every (map kept ts) ≡ Ok fates → Rows old ts ts fates
-first_rows old [] fates is found h = let none : [] ≡ fates = cc in subst (λ fs. Rows old [] [] fs) none tt
-first_rows old (t ∷ ts) fates is found h =
+first_rows : (old new : Schema) (ts : List Table) (fates : List (ℕ × Fate)) → IsSchema old → AllOf (λ t. find (λ u. u.1 == t.1) old.tables ≡ Some t) ts → every (map kept ts) ≡ Ok fates → Rows old new ts ts fates
+first_rows old new [] fates is found h = let none : [] ≡ fates = cc in subst (λ fs. Rows old new [] [] fs) none tt
+first_rows old new (t ∷ ts) fates is found h =
     let a = and_then_ok (kept t) (λ x. and_then (every (map kept ts)) (λ xs. Ok (x ∷ xs))) fates h in
     let b = and_then_ok (every (map kept ts)) (λ xs. Ok (a.0 ∷ xs)) fates a.2 in
     let fate = kept_is t a.0 a.1 in
     let in_old : shape_numbered old t.1 ≡ Some t.2 = ap (option_map (λ u. u.2)) found.0 in
-    let here : Row old t t a.0 = record {
+    let here : Row old new t t a.0 = record {
+      name = refl;
       number = refl;
       fate_number = ap (λ f. f.0) fate;
       lens = record { new_cols = carried t.2.columns; old_cols = carried t.2.columns };
       is_kept = ap (λ f. f.1) fate;
       hangs = first_lens t.2 (is.shapes t.1 t.2 in_old).key;
       in_old = in_old;
+      wider = λ over k. first_shape t.2 over (is.shapes t.1 t.2 in_old);
     } in
     let whole : a.0 ∷ b.0 ≡ fates = cc in
-    subst (λ fs. Rows old (t ∷ ts) (t ∷ ts) fs) whole (here, first_rows old ts b.0 is found.1 b.1)
+    subst (λ fs. Rows old new (t ∷ ts) (t ∷ ts) fs) whole (here, first_rows old new ts b.0 is found.1 b.1)
 
 option_bad_none : (o : Option Place) → option_map BadExpr o ≡ None → o ≡ None
 option_bad_none None h = refl
 option_bad_none (Some p) h = cc
 
-planned_rows : (old : Schema) (next_table : ℕ) (m : Migration) (plan : Plan) → IsSchema old → plan_of old next_table m ≡ Ok plan → Rows old old.tables plan.schema.tables plan.fates
+planned_rows : (old : Schema) (next_table : ℕ) (m : Migration) (plan : Plan) → IsSchema old → plan_of old next_table m ≡ Ok plan → Rows old plan.schema old.tables plan.schema.tables plan.fates
 planned_rows old next_table m plan is h =
     let a = and_then_ok (begun old next_table) _ plan h in
     let b = and_then_ok (every (map kept old.tables)) _ a.0 a.1 in
@@ -326,8 +369,8 @@ planned_rows old next_table m plan is h =
     let run = ops_done old m.operations 0 a.0 final c.1 in
     let meant : final.meant ≡ run.meant_by = run.meant ∙ ap (λ x. x.meant ++ run.meant_by) (sym first_draft) in
     let types : first_bad old final.plan.schema 0 (zip m.operations run.meant_by) ≡ None = ap (λ ns. first_bad old final.plan.schema 0 (zip m.operations ns)) (sym meant) ∙ option_bad_none _ d.0 in
-    let begin = subst (λ x. Rows old old.tables x.plan.schema.tables x.plan.fates) first_draft (first_rows old old.tables b.0 is (all_found old.tables is.numbers) b.1) in
-    subst (λ p. Rows old old.tables p.schema.tables p.fates) d.1 (run.rows final.plan.schema types is.numbers begin)
+    let begin = subst (λ x. Rows old final.plan.schema old.tables x.plan.schema.tables x.plan.fates) first_draft (first_rows old final.plan.schema old.tables b.0 is (all_found old.tables is.numbers) b.1) in
+    subst (λ p. Rows old p.schema old.tables p.schema.tables p.fates) d.1 (run.rows final.plan.schema types is.numbers begin)
 
 record Joined (os ts : List Table) (number : ℕ) (lens : Lens) : Type 0 where
   o : Table
@@ -336,14 +379,14 @@ record Joined (os ts : List Table) (number : ℕ) (lens : Lens) : Type 0 where
   in_ts : find (λ u. u.1 == number) ts ≡ Some t
   hangs : Hangs o.2 t.2 lens
 
-joined : (old : Schema) (os ts : List Table) (fs : List (ℕ × Fate)) (number : ℕ) (lens : Lens) → Rows old os ts fs → option_and_then (λ f. lens_in f.1) (find (λ f. f.0 == number) fs) ≡ Some lens → Joined os ts number lens
-joined old [] [] [] number lens r h = cc
-joined old [] [] (f ∷ fs) number lens r h = absurd r
-joined old [] (t ∷ ts) fs number lens r h = absurd r
-joined old (o ∷ os) [] fs number lens r h = absurd r
-joined old (o ∷ os) (t ∷ ts) [] number lens r h = absurd r
-joined old (o ∷ os) (t ∷ ts) (f ∷ fs) number lens r h =
-    by_test (joined old os ts fs number lens r.1) (o.1 == number) refl (ap (λ n. n == number) r.0.number) (ap (λ n. n == number) r.0.fate_number) h
+joined : (old new : Schema) (os ts : List Table) (fs : List (ℕ × Fate)) (number : ℕ) (lens : Lens) → Rows old new os ts fs → option_and_then (λ f. lens_in f.1) (find (λ f. f.0 == number) fs) ≡ Some lens → Joined os ts number lens
+joined old new [] [] [] number lens r h = cc
+joined old new [] [] (f ∷ fs) number lens r h = absurd r
+joined old new [] (t ∷ ts) fs number lens r h = absurd r
+joined old new (o ∷ os) [] fs number lens r h = absurd r
+joined old new (o ∷ os) (t ∷ ts) [] number lens r h = absurd r
+joined old new (o ∷ os) (t ∷ ts) (f ∷ fs) number lens r h =
+    by_test (joined old new os ts fs number lens r.1) (o.1 == number) refl (ap (λ n. n == number) r.0.number) (ap (λ n. n == number) r.0.fate_number) h
   where
     by_test : (option_and_then (λ f. lens_in f.1) (find (λ f. f.0 == number) fs) ≡ Some lens → Joined os ts number lens) → (b : Bool) → (o.1 == number) ≡ b → (t.1 == number) ≡ (o.1 == number) → (f.0 == number) ≡ (o.1 == number) → option_and_then (λ f. lens_in f.1) (if f.0 == number then Some f else find (λ f. f.0 == number) fs) ≡ Some lens → Joined (o ∷ os) (t ∷ ts) number lens
     by_test more true is tt_is ff_is k =
@@ -355,7 +398,7 @@ joined old (o ∷ os) (t ∷ ts) (f ∷ fs) number lens r h =
         record { o = rest.o; t = rest.t; in_os = rw is rest.in_os; in_ts = rw (tt_is ∙ is) rest.in_ts; hangs = rest.hangs }
 
 planned : (old : Schema) (next_table : ℕ) (m : Migration) (plan : Plan) → IsSchema old → plan_of old next_table m ≡ Ok plan → (number : ℕ) (lens : Lens) → lens_of plan number ≡ Some lens → Joined old.tables plan.schema.tables number lens
-planned old next_table m plan is h number lens k = joined old old.tables plan.schema.tables plan.fates number lens (planned_rows old next_table m plan is h) k
+planned old next_table m plan is h number lens k = joined old plan.schema old.tables plan.schema.tables plan.fates number lens (planned_rows old next_table m plan is h) k
 
 pub planned_lenses_join : PlannedLensesJoin
 planned_lenses_join old next_table m plan is h number lens k =
@@ -371,3 +414,96 @@ planned_lenses_join old next_table m plan is h number lens k =
 
 pub added_columns_lose_nothing : AddedColumnsLoseNothing
 added_columns_lose_nothing old next_table m plan is adds h number lens k = (planned old next_table m plan is h number lens k).hangs.carry
+
+-- ---- the new version's shapes
+
+record RowOf (old new : Schema) (number : ℕ) (t : Table) : Type 0 where
+  o : Table
+  same_number : o.1 ≡ number
+  in_old : shape_numbered old o.1 ≡ Some o.2
+  wider : (over : Shape) → shape_numbered new o.1 ≡ Some over → Wider o.2 t.2 over
+
+row_of : (old new : Schema) (os ts : List Table) (fs : List (ℕ × Fate)) (number : ℕ) (t : Table) → Rows old new os ts fs → find (λ u. u.1 == number) ts ≡ Some t → RowOf old new number t
+row_of old new [] [] [] number u r h = cc
+row_of old new [] [] (f ∷ fs) number u r h = absurd r
+row_of old new [] (t ∷ ts) fs number u r h = absurd r
+row_of old new (o ∷ os) [] fs number u r h = absurd r
+row_of old new (o ∷ os) (t ∷ ts) [] number u r h = absurd r
+row_of old new (o ∷ os) (t ∷ ts) (f ∷ fs) number u r h = by_test (row_of old new os ts fs number u r.1) (t.1 == number) refl h
+  where
+    by_test : (find (λ u. u.1 == number) ts ≡ Some u → RowOf old new number u) → (b : Bool) → (t.1 == number) ≡ b → (if b then Some t else find (λ u. u.1 == number) ts) ≡ Some u → RowOf old new number u
+    by_test more true is k =
+        let same_table : t ≡ u = cc in
+        let same_number : t.1 ≡ number = grind (arith, nat_tests) in
+        record { o = o; same_number = sym r.0.number ∙ same_number; in_old = r.0.in_old; wider = λ over g. subst (λ x. Wider o.2 x.2 over) same_table (r.0.wider over g) }
+    by_test more false is k = more k
+
+shape_of_table : (o : Option Table) (shape : Shape) → option_map (λ u. u.2) o ≡ Some shape → (t : Table) × (o ≡ Some t) × (t.2 ≡ shape)
+shape_of_table None shape h = cc
+shape_of_table (Some t) shape h = (t, refl, cc)
+
+pub planned_schema : PlansKeepSchemas
+planned_schema old next_table m plan is h =
+    let rows = planned_rows old next_table m plan is h in
+    record {
+      names = ap all_different (in_common (λ t. t.0) old plan.schema old.tables plan.schema.tables plan.fates (λ o t f row. row.name) rows) ∙ is.names;
+      numbers = ap numbers_differ (same_numbers old plan.schema old.tables plan.schema.tables plan.fates rows) ∙ is.numbers;
+      shapes = λ number shape k.
+          let found = shape_of_table (table_numbered plan.schema number) shape k in
+          let t : Table = found.0 in
+          let row = row_of old plan.schema old.tables plan.schema.tables plan.fates number t rows found.1 in
+          let in_new : shape_numbered plan.schema row.o.1 ≡ Some t.2 = ap (shape_numbered plan.schema) row.same_number ∙ ap (option_map (λ u. u.2)) found.1 in
+          subst WellFormed found.2 (whole_shape row.o.2 t.2 (is.shapes row.o.1 row.o.2 row.in_old) (row.wider t.2 in_new));
+    }
+
+-- ---- the tables and their fates
+
+pub keeps_tables : OfAddedColumns KeepsTables
+keeps_tables old next_table m plan is adds h =
+    in_common {X = List ℕ × ℕ} (λ t. (t.0, t.1)) old plan.schema old.tables plan.schema.tables plan.fates (λ o t f row. let name = row.name in let number = row.number in cc) (planned_rows old next_table m plan is h)
+
+fates_of : (old new : Schema) (os ts : List Table) (fs : List (ℕ × Fate)) → Rows old new os ts fs → map (λ f. f.0) fs ≡ numbers os
+fates_of old new [] [] [] r = refl
+fates_of old new [] [] (f ∷ fs) r = absurd r
+fates_of old new [] (t ∷ ts) fs r = absurd r
+fates_of old new (o ∷ os) [] fs r = absurd r
+fates_of old new (o ∷ os) (t ∷ ts) [] r = absurd r
+fates_of old new (o ∷ os) (t ∷ ts) (f ∷ fs) r =
+    let here = r.0.fate_number in
+    let there = fates_of old new os ts fs r.1 in
+    cc
+
+pub has_fates : OfAddedColumns HasFates
+has_fates old next_table m plan is adds h = fates_of old plan.schema old.tables plan.schema.tables plan.fates (planned_rows old next_table m plan is h)
+
+all_kept : (old new : Schema) (os ts : List Table) (fs : List (ℕ × Fate)) → Rows old new os ts fs → list_all (λ f. is_some (lens_in f.1)) fs ≡ true
+all_kept old new [] [] [] r = refl
+all_kept old new [] [] (f ∷ fs) r = absurd r
+all_kept old new [] (t ∷ ts) fs r = absurd r
+all_kept old new (o ∷ os) [] fs r = absurd r
+all_kept old new (o ∷ os) (t ∷ ts) [] r = absurd r
+all_kept old new (o ∷ os) (t ∷ ts) (f ∷ fs) r =
+    all_true (is_some (lens_in f.1)) (list_all (λ f. is_some (lens_in f.1)) fs) (ap (λ fate. is_some (lens_in fate)) r.0.is_kept) (all_kept old new os ts fs r.1)
+
+pub keeps_all : OfAddedColumns KeepsAll
+keeps_all old next_table m plan is adds h = all_kept old plan.schema old.tables plan.schema.tables plan.fates (planned_rows old next_table m plan is h)
+
+-- Each table is found by its number exactly where a lens is.
+found_alike : (os : List Table) (fs : List (ℕ × Fate)) (number : ℕ) → map (λ f. f.0) fs ≡ numbers os → list_all (λ f. is_some (lens_in f.1)) fs ≡ true → is_some (option_and_then (λ f. lens_in f.1) (find (λ f. f.0 == number) fs)) ≡ is_some (find (λ o. o.1 == number) os)
+found_alike [] [] number same kept = refl
+found_alike [] (f ∷ fs) number same kept = cc
+found_alike (o ∷ os) [] number same kept = cc
+found_alike (o ∷ os) (f ∷ fs) number same kept =
+    let here : f.0 ≡ o.1 = cc in
+    let rest : map (λ f. f.0) fs ≡ numbers os = cc in
+    let lens = both (is_some (lens_in f.1)) (list_all (λ f. is_some (lens_in f.1)) fs) kept in
+    by_test (found_alike os fs number rest lens.1) lens.0 (o.1 == number) refl (ap (λ n. n == number) here)
+  where
+    by_test : is_some (option_and_then (λ f. lens_in f.1) (find (λ f. f.0 == number) fs)) ≡ is_some (find (λ o. o.1 == number) os) → is_some (lens_in f.1) ≡ true → (b : Bool) → (o.1 == number) ≡ b → (f.0 == number) ≡ (o.1 == number) → is_some (option_and_then (λ f. lens_in f.1) (if f.0 == number then Some f else find (λ f. f.0 == number) fs)) ≡ is_some (if o.1 == number then Some o else find (λ o. o.1 == number) os)
+    by_test more lens true is alike = rw (alike ∙ is, is) lens
+    by_test more lens false is alike = rw (alike ∙ is, is) more
+
+pub has_lenses : OfAddedColumns HasLenses
+has_lenses old next_table m plan is adds h number =
+    let rows = planned_rows old next_table m plan is h in
+    found_alike old.tables plan.fates number (fates_of old plan.schema old.tables plan.schema.tables plan.fates rows) (all_kept old plan.schema old.tables plan.schema.tables plan.fates rows)

@@ -1,5 +1,5 @@
 -- What holds of lenses and plans, whatever the shapes, rows and migrations are.
-use Rattle.std.specs.Prelude.{◌≡◌, ℕ, Bool, true, false, not, ◌&&◌, ◌==◌, List, [], ◌∷◌, map, slice_index_or, Option, Some, Ok}
+use Rattle.std.specs.Prelude.{◌≡◌, ℕ, Bool, true, false, not, ◌&&◌, ◌==◌, List, [], ◌∷◌, map, slice_index_or, is_some, Option, Some, Ok}
 use Rattle.std.specs.List.{list_all, list_any}
 use Rattle.std.specs.Option.{option_map_or}
 use Rattle.sql_base.specs.declared.shapes.Schema.{Schema}
@@ -7,14 +7,15 @@ use Rattle.sql_base.specs.declared.shapes.Shape.{Shape}
 use Rattle.sql_base.specs.declared.values.Value.{Value}
 use Rattle.sql_base.specs.declared.values.Value.TheVariants.{Null}
 use Rattle.sql_base.specs.Fit.{row_fits}
-use Rattle.sql_eval.specs.Shape.{WellFormed}
+use Rattle.sql_eval.specs.Shape.{WellFormed, all_different}
 use Rattle.mig_lens.specs.declared.columns.Lens.{Lens}
 use Rattle.mig_lens.specs.declared.migrations.Migration.{Migration}
 use Rattle.mig_lens.specs.declared.migrations.Op.{Op}
 use Rattle.mig_lens.specs.declared.migrations.Op.TheVariants.{AddColumn}
 use Rattle.mig_lens.specs.declared.plans.Plan.{Plan}
-use Rattle.mig_lens.specs.Lens.{IsWellFormed, all_carry, backward, fits, forward}
-use Rattle.mig_lens.specs.Plan.{lens_of, plan_of, shape_numbered}
+use Rattle.mig_lens.specs.Layout.{has_mark}
+use Rattle.mig_lens.specs.Lens.{IsWellFormed, all_carry, backward, carries, fits, forward}
+use Rattle.mig_lens.specs.Plan.{lens_in, lens_of, plan_of, shape_numbered, table_numbered}
 
 -- ---- halves
 
@@ -47,14 +48,33 @@ BackwardOfForward =
     fits lens old new ≡ true → IsWellFormed lens old new → all_carry lens.old_cols ≡ true → row_fits old half ≡ true → forward lens old half previous ≡ Ok made →
     backward lens new made before ≡ Ok half
 
+-- A new column that carries an old one has its value.
+abbrev pub ForwardCarries : Type 0
+ForwardCarries =
+    (lens : Lens) (old : Shape) (half : List Value) (previous : Option (List Value)) (made : List Value) (i j : ℕ) →
+    forward lens old half previous ≡ Ok made → carries lens.new_cols i j ≡ true → slice_index_or made i Null ≡ slice_index_or half j Null
+
+-- The same of an old column that carries a new one.
+abbrev pub BackwardCarries : Type 0
+BackwardCarries =
+    (lens : Lens) (new : Shape) (half : List Value) (previous : Option (List Value)) (made : List Value) (j i : ℕ) →
+    backward lens new half previous ≡ Ok made → carries lens.old_cols j i ≡ true → slice_index_or made j Null ≡ slice_index_or half i Null
+
+-- Where no new column is made by an expression there is a new half of every old half.
+abbrev pub UnmadeNeverFaults : Type 0
+UnmadeNeverFaults =
+    (lens : Lens) (old : Shape) (half : List Value) (previous : Option (List Value)) → has_mark lens ≡ false →
+    (made : List Value) × (forward lens old half previous ≡ Ok made)
+
 -- ---- plans
 
 abbrev pub numbers_differ : List ℕ → Bool
 numbers_differ [] = true
 numbers_differ (number ∷ numbers) = not (list_any (λ other. other == number) numbers) && numbers_differ numbers
 
--- A schema's tables have different numbers, and well-formed shapes.
+-- A schema's tables have different names, different numbers and well-formed shapes.
 pub record IsSchema (schema : Schema) : Type 0 where
+  pub names : all_different (map (λ table. table.0) schema.tables) ≡ true
   pub numbers : numbers_differ (map (λ table. table.1) schema.tables) ≡ true
   pub shapes : (number : ℕ) (shape : Shape) → shape_numbered schema number ≡ Some shape → WellFormed shape
 
@@ -82,3 +102,32 @@ abbrev pub AddedColumnsLoseNothing : Type 0
 AddedColumnsLoseNothing =
     (old : Schema) (next_table : ℕ) (m : Migration) (plan : Plan) → IsSchema old → list_all adds_column m.operations ≡ true → plan_of old next_table m ≡ Ok plan →
     (number : ℕ) (lens : Lens) → lens_of plan number ≡ Some lens → all_carry lens.old_cols ≡ true
+
+-- Of every plan of a migration each operation of which is add_column.
+abbrev pub OfAddedColumns : (Schema → Plan → Type 0) → Type 0
+OfAddedColumns Holds =
+    (old : Schema) (next_table : ℕ) (m : Migration) (plan : Plan) → IsSchema old → list_all adds_column m.operations ≡ true → plan_of old next_table m ≡ Ok plan → Holds old plan
+
+-- the names and numbers of a version's tables
+abbrev pub titles : Schema → List (List ℕ × ℕ)
+titles schema = map {B = List ℕ × ℕ} (λ table. (table.0, table.1)) schema.tables
+
+-- The new version has the old version's tables, in the same order, under the same names and numbers.
+abbrev pub KeepsTables : Schema → Plan → Type 0
+KeepsTables old plan = titles plan.schema ≡ titles old
+
+-- There is one fate for each of the old version's tables, in the same order.
+abbrev pub HasFates : Schema → Plan → Type 0
+HasFates old plan = map (λ fate. fate.0) plan.fates ≡ map (λ table. table.1) old.tables
+
+-- Each fate is that the table is kept.
+abbrev pub KeepsAll : Schema → Plan → Type 0
+KeepsAll old plan = list_all (λ fate. is_some (lens_in fate.1)) plan.fates ≡ true
+
+-- The tables that have a lens are those of the old version.
+abbrev pub HasLenses : Schema → Plan → Type 0
+HasLenses old plan = (number : ℕ) → is_some (lens_of plan number) ≡ is_some (table_numbered old number)
+
+-- The new version is a schema as the old one is.
+abbrev pub PlansKeepSchemas : Type 0
+PlansKeepSchemas = (old : Schema) (next_table : ℕ) (m : Migration) (plan : Plan) → IsSchema old → plan_of old next_table m ≡ Ok plan → IsSchema plan.schema

@@ -1,6 +1,6 @@
 //! The laws of lenses and plans. Each is the contract of a function that does nothing.
 
-ghost use Rattle.mig_lens.specs.Laws.{ForwardFits, BackwardFits, BackwardOfForward, PlannedLensesJoin, AddedColumnsLoseNothing};
+ghost use Rattle.mig_lens.specs.Laws.{ForwardFits, BackwardFits, BackwardOfForward, ForwardCarries, BackwardCarries, UnmadeNeverFaults, PlannedLensesJoin, AddedColumnsLoseNothing, PlansKeepSchemas, OfAddedColumns, KeepsTables, HasFates, KeepsAll, HasLenses};
 
 /// A half that is made from one that fits its shape fits the other shape, and has the same key.
 ///
@@ -17,10 +17,37 @@ pub fn nothing_is_lost_forward()
     ensures { BackwardOfForward }
 {}
 
+/// A column that carries one of the other side has that one's value, whatever the half before was.
+pub fn carried_columns_keep_their_values()
+    ensures forward { ForwardCarries }
+    ensures backward { BackwardCarries }
+{}
+
+/// Where no new column is made by an expression, each old half has a new half.
+pub fn constants_never_fault()
+    ensures { UnmadeNeverFaults }
+{}
+
 /// Each table that a plan keeps has a shape in both versions, and its lens fits the two shapes and is well formed over
-/// them, for every schema whose tables have different numbers and well-formed shapes. Where each operation is
-/// `add_column` every old column is carried.
+/// them, for every schema whose tables have different names, different numbers and well-formed shapes. Where each
+/// operation is `add_column` every old column is carried.
 pub fn planned_lenses_join()
     ensures join { PlannedLensesJoin }
     ensures carry { AddedColumnsLoseNothing }
+{}
+
+/// The tables of a plan's new version have different names, different numbers and well-formed shapes, for every schema
+/// of which that holds.
+pub fn planned_schemas_are_well_formed()
+    ensures { PlansKeepSchemas }
+{}
+
+/// Where each operation is `add_column`, the new version has the old version's tables, in the same order and under the
+/// same names and numbers; there is one fate for each of them in that order, and it is that the table is kept. So the
+/// tables with a lens are those of the old version.
+pub fn added_columns_keep_tables()
+    ensures tables { OfAddedColumns KeepsTables }
+    ensures fates { OfAddedColumns HasFates }
+    ensures kept { OfAddedColumns KeepsAll }
+    ensures lenses { OfAddedColumns HasLenses }
 {}

@@ -1,0 +1,369 @@
+mod made;
+mod shown;
+
+use made::{migration, name, one, text, users};
+use mig_lens::{
+    Fate, Kind, Lens, Member, Op, Place, Plan, Refusal, Ways, backward, forward, layout, plan,
+};
+use sql_base::{Code, Copying, Expr, List, Shape, Value};
+use std::alloc::Global;
+use std::test::Fail;
+
+/// Migrations of `users (id, name)`, and what comes of each: the new columns and constraints, the cells of the new and
+/// of the old columns; or the first refusal.
+const PLANS: &[(&str, &str)] = &[
+    ("users age bigint null up=0", "id! name! age ; 0 1 up / 0 1"),
+    ("users n bigint up=1_but_b", "id! name! n! ; 0 1 up / 0 1"),
+    (
+        "users age bigint default=0 check=age_pos:age>0",
+        "id! name! age! age_pos ; 0 1 =0 / 0 1",
+    ),
+    (
+        "users code text null unique up=x_but_a",
+        "id! name! code users_code_key (2) ; 0 1 up / 0 1",
+    ),
+    (
+        "users a bigint null; users b bigint null up=id",
+        "id! name! a b ; 0 1 =NULL up / 0 1",
+    ),
+    ("people age bigint up=name", "P7 people"),
+    ("people name bigint", "P7 people"),
+    ("users name bigint pk", "P9 name"),
+    ("users a bigint null; users a bigint null", "P9 a"),
+    (
+        "users age bigint null check=users_pkey:age>0",
+        "P9 users_pkey",
+    ),
+    (
+        "users code text null unique check=users_code_key:NULL",
+        "P9 users_code_key",
+    ),
+    ("users age bigint pk", "P10 users"),
+    ("users age bigint default='x'", "P15 operations[0].default"),
+    ("users age bigint", "P12 users age"),
+    ("users age bigint default=NULL", "P12 users age"),
+    ("users age bigint null up=name", "P14 operations[0].up"),
+    ("users age bigint null up=age", "P14 operations[0].up"),
+    (
+        "users age text null check=age_pos:age>0",
+        "P14 operations[0].check",
+    ),
+    (
+        "users c text null check=age_pos:age>0; users age bigint null",
+        "id! name! c age age_pos ; 0 1 =NULL =NULL / 0 1",
+    ),
+    (
+        "users c text null check=age_pos:age>0; users age text null",
+        "P14 operations[1].check",
+    ),
+    (
+        "users age bigint null up=name; people age bigint",
+        "P7 people",
+    ),
+    ("users age bigint null; drop", "not yet 1"),
+];
+
+fn planned(alloc: Global, plan: &Plan) -> Result<String, Fail> {
+    let table = plan.schema.tables.get(0).ok_or("a table")?;
+    let shape = shown::shape(alloc, &table.2)?;
+    match plan.fates.get(0) {
+        Some((1, Fate::Kept(lens))) => {
+            let lens = shown::lens(alloc, lens)?;
+            Ok(format!(in alloc; "{shape};{lens}")?)
+        }
+        _ => Ok(shape),
+    }
+}
+
+fn answered(alloc: Global, words: &str) -> Result<String, Fail> {
+    let m = migration(alloc, words)?.copy(alloc)?;
+    match plan(alloc, &users(alloc)?, 2, &m) {
+        Ok(plan) => planned(alloc, &plan.copy(alloc)?),
+        Err(fault) => shown::fault(alloc, &fault.copy(alloc)?),
+    }
+}
+
+#[test]
+fn plans_are_as_the_rules_say(rt: HostRuntime) -> Result<(), Fail> {
+    let alloc = rt.alloc();
+    for (words, wanted) in PLANS {
+        let answer = answered(alloc, words)?;
+        assert!(rt; answer.as_str() == *wanted, "{words}: {answer}");
+    }
+    Ok(())
+}
+
+fn columns(alloc: Global, count: u32) -> Result<String, Fail> {
+    let mut words = String::from_str(alloc, "users c bigint null")?;
+    for n in 1..count {
+        words.push_str(format!(in alloc; "; users c{n} bigint null")?.as_str())?;
+    }
+    Ok(words)
+}
+
+#[test]
+fn a_table_has_at_most_32_columns(rt: HostRuntime) -> Result<(), Fail> {
+    let alloc = rt.alloc();
+    let most = answered(alloc, columns(alloc, 30)?.as_str())?;
+    assert!(rt; most.starts_with("id! name! c c1 c2 "), "{most}");
+    let more = answered(alloc, columns(alloc, 31)?.as_str())?;
+    assert!(rt; more.as_str() == "P20 columns", "{more}");
+    Ok(())
+}
+
+/// Migrations of `users`, the name of the row with key 1, the last value of its new half before (`-` where it has none),
+/// and its new half.
+const HALVES: &[(&str, &str, &str, &str)] = &[
+    ("users age bigint null up=0", "a", "-", "|1|a|0"),
+    ("users age bigint null up=0", "a", "7", "|1|a|0"),
+    ("users n bigint up=1_but_b", "a", "-", "|1|a|1"),
+    ("users n bigint up=1_but_b", "b", "-", "|1|b|NULL"),
+    ("users age bigint default=0", "d", "-", "|1|d|0"),
+    ("users age bigint default=0", "d", "7", "|1|d|7"),
+    ("users n bigint null up=number", "12", "-", "|1|12|12"),
+    ("users n bigint null up=number", "ann", "-", "BadText"),
+    ("users n bigint null up=id/0", "a", "7", "DivZero"),
+    (
+        "users m bigint null up=id+max; users n bigint null up=id/0",
+        "a",
+        "-",
+        "Range",
+    ),
+];
+
+fn row(alloc: Global, word: &str, last: &str) -> Result<List<Value>, Fail> {
+    let mut row = one(alloc, Value::Int(1))?;
+    row.push(text(alloc, word)?)?;
+    if let Ok(n) = last.parse::<i64>() {
+        row.push(Value::Int(n))?;
+    }
+    Ok(row)
+}
+
+/// The new half, if the old half that is made from it is the old half again.
+fn there_and_back(
+    alloc: Global,
+    lens: &Lens,
+    old: &Shape,
+    new: &Shape,
+    half: &[Value],
+    before: Option<&[Value]>,
+) -> Result<String, Fail> {
+    match forward(alloc, lens, old, half, before) {
+        Ok(made) => {
+            let back = backward(alloc, lens, new, made.as_slice(), None)?;
+            if back.as_slice() != half {
+                return Ok(String::from_str(alloc, "another old half")?);
+            }
+            shown::half(alloc, made.as_slice())
+        }
+        Err(fault) => Ok(format!(in alloc; "{fault:?}")?),
+    }
+}
+
+/// What `backward` makes by the same lens with its sides exchanged.
+fn mirrored(
+    alloc: Global,
+    lens: &Lens,
+    old: &Shape,
+    half: &[Value],
+    before: Option<&[Value]>,
+) -> Result<String, Fail> {
+    let turned = Lens {
+        new_cols: lens.old_cols.copy(alloc)?,
+        old_cols: lens.new_cols.copy(alloc)?,
+    };
+    match backward(alloc, &turned, old, half, before) {
+        Ok(made) => shown::half(alloc, made.as_slice()),
+        Err(fault) => Ok(format!(in alloc; "{fault:?}")?),
+    }
+}
+
+/// The only table of a plan over `users`: its old shape, its new shape and its lens.
+fn only_table(alloc: Global, words: &str) -> Result<(Shape, Shape, Lens), Fail> {
+    let old = users(alloc)?;
+    let plan = plan(alloc, &old, 2, &migration(alloc, words)?)?;
+    let new = plan.schema.tables.get(0).ok_or("a table")?;
+    let old = old.tables.get(0).ok_or("a table")?;
+    match plan.fates.get(0) {
+        Some((_, Fate::Kept(lens))) => {
+            Ok((old.2.copy(alloc)?, new.2.copy(alloc)?, lens.copy(alloc)?))
+        }
+        _ => Err("no lens".into()),
+    }
+}
+
+/// The new half of the row, twice: by `forward`, and by `backward` of the mirrored lens.
+fn halves(
+    alloc: Global,
+    words: &str,
+    word: &str,
+    before: Option<&[Value]>,
+) -> Result<(String, String), Fail> {
+    let (old, new, lens) = only_table(alloc, words)?;
+    let half = row(alloc, word, "-")?;
+    let there = there_and_back(alloc, &lens, &old, &new, half.as_slice(), before)?;
+    Ok((
+        there,
+        mirrored(alloc, &lens, &old, half.as_slice(), before)?,
+    ))
+}
+
+fn halves_after(
+    alloc: Global,
+    words: &str,
+    word: &str,
+    last: &str,
+) -> Result<(String, String), Fail> {
+    if last == "-" {
+        return halves(alloc, words, word, None);
+    }
+    let before = row(alloc, "z", last)?;
+    halves(alloc, words, word, Some(before.as_slice()))
+}
+
+#[test]
+fn halves_are_made_both_ways(rt: HostRuntime) -> Result<(), Fail> {
+    let alloc = rt.alloc();
+    for (words, word, last, wanted) in HALVES {
+        let (there, mirror) = halves_after(alloc, words, word, last)?;
+        assert!(rt; there.as_str() == *wanted, "{words}, {word}: {there}");
+        assert!(rt; mirror.as_str() == *wanted, "{words}, {word}: {mirror}");
+    }
+    Ok(())
+}
+
+#[test]
+fn stored_rows_have_shadows_and_a_mark(rt: HostRuntime) -> Result<(), Fail> {
+    let alloc = rt.alloc();
+    for (words, wanted) in [
+        (
+            "users age bigint null up=0",
+            "id:bigint name:text _pgroll_new_age:bigint _pgroll_needs_backfill:boolean mark",
+        ),
+        (
+            "users age bigint default=0",
+            "id:bigint name:text _pgroll_new_age:bigint no mark",
+        ),
+    ] {
+        let (old, new, lens) = only_table(alloc, words)?;
+        let found = layout(alloc, &old, &new, &lens)?.copy(alloc)?;
+        let found = shown::layout(alloc, &found)?;
+        assert!(rt; found.as_str() == wanted, "{words}: {found}");
+    }
+    Ok(())
+}
+
+fn zero() -> Expr {
+    Expr::Lit(Value::Int(0))
+}
+
+/// An operation of each kind but `add_column`.
+fn operations(alloc: Global) -> Result<List<Op>, Fail> {
+    let [users, age, a] = ["users", "age", "a"];
+    let mut all = one(
+        alloc,
+        Op::CreateTable {
+            name: name(alloc, users)?,
+            columns: List::new(alloc),
+        },
+    )?;
+    all.push(Op::DropTable {
+        name: name(alloc, users)?,
+    })?;
+    all.push(Op::RenameTable {
+        from: name(alloc, users)?,
+        to: name(alloc, a)?,
+    })?;
+    all.push(Op::DropColumn {
+        table: name(alloc, users)?,
+        column: name(alloc, age)?,
+        down: Some(zero()),
+    })?;
+    all.push(Op::RenameColumn {
+        table: name(alloc, users)?,
+        from: name(alloc, age)?,
+        to: name(alloc, a)?,
+    })?;
+    Ok(all)
+}
+
+fn altered(alloc: Global) -> Result<Op, Fail> {
+    let table = name(alloc, "users")?;
+    let column = name(alloc, "age")?;
+    let unique = name(alloc, "ages")?;
+    Ok(Op::AlterColumn {
+        table,
+        column,
+        ty: None,
+        nullable: Some(true),
+        default: Some(Value::Null),
+        unique: Some(unique),
+        check: None,
+        up: Some(zero()),
+        down: None,
+    })
+}
+
+fn constrained(alloc: Global) -> Result<Op, Fail> {
+    let table = name(alloc, "users")?;
+    let columns = one(alloc, name(alloc, "age")?)?;
+    let pair = (name(alloc, "age")?, zero());
+    Ok(Op::CreateConstraint {
+        table,
+        name: name(alloc, "ages")?,
+        columns,
+        check: None,
+        up: one(alloc, pair)?,
+        down: List::new(alloc),
+    })
+}
+
+fn freed(alloc: Global) -> Result<Op, Fail> {
+    Ok(Op::DropConstraint {
+        table: name(alloc, "users")?,
+        name: name(alloc, "ages")?,
+        up: Some(Ways::One(zero())),
+        down: Some(Ways::Each(List::new(alloc))),
+    })
+}
+
+fn constraint_operations(alloc: Global) -> Result<List<Op>, Fail> {
+    let mut all = one(alloc, altered(alloc)?)?;
+    all.push(constrained(alloc)?)?;
+    all.push(freed(alloc)?)?;
+    Ok(all)
+}
+
+#[test]
+fn operations_are_copied(rt: HostRuntime) -> Result<(), Fail> {
+    let alloc = rt.alloc();
+    assert!(rt; operations(alloc)?.copy(alloc)?.len() == 5);
+    assert!(rt; constraint_operations(alloc)?.copy(alloc)?.len() == 3);
+    Ok(())
+}
+
+/// A refusal of each kind that holds something.
+fn refusals(alloc: Global) -> Result<List<Refusal>, Fail> {
+    let at = Place {
+        operation: 0,
+        member: Member::Check,
+    };
+    let mut all = one(alloc, Refusal::AlreadyActive(name(alloc, "02")?))?;
+    all.push(Refusal::Unfinished(Kind::Complete))?;
+    all.push(Refusal::NotFilled(name(alloc, "users")?, 1))?;
+    all.push(Refusal::ColumnTwice(name(alloc, "users")?, name(alloc, "age")?))?;
+    all.push(Refusal::BadExpr(at))?;
+    all.push(Refusal::BackfillRefused(name(alloc, "users")?, 2, Code::C23502))?;
+    all.push(Refusal::BadScript(3))?;
+    Ok(all)
+}
+
+#[test]
+fn refusals_are_copied(rt: HostRuntime) -> Result<(), Fail> {
+    let alloc = rt.alloc();
+    for refusal in refusals(alloc)?.as_slice() {
+        assert!(rt; refusal.copy(alloc)? == *refusal, "{refusal:?}");
+    }
+    Ok(())
+}
