@@ -1,0 +1,9 @@
+pub mod Canonical
+pub mod Lexemes
+pub mod Literals
+pub mod Numbers
+pub mod Proper
+pub mod Runs
+pub mod Texts
+pub mod Words
+pub mod Pieces
