@@ -162,7 +162,7 @@ plain_lexes (b ∷ bs) rest h free stops =
 -- ---- text literals
 
 -- Behind its opening quote a literal is read back, with its closing quote.
-literal_read : (text rest : List ℕ) → begins (λ b. b == 39) rest ≡ false → literal false (flat_map doubled text ++ 39 ∷ rest) ≡ Some (text, length (flat_map doubled text) + 1)
+pub literal_read : (text rest : List ℕ) → begins (λ b. b == 39) rest ≡ false → literal false (flat_map doubled text ++ 39 ∷ rest) ≡ Some (text, length (flat_map doubled text) + 1)
 literal_read [] [] stops = refl
 literal_read [] (r ∷ rest) stops = rw stops refl
 literal_read (b ∷ text) rest stops = by_test (b == 39) refl (literal_read text rest stops)

@@ -1,6 +1,7 @@
 -- Which expressions have a text, and that the tokens of that text are theirs.
-use Rattle.std.specs.Prelude.{ℕ, ◌<◌, ◌≤◌, ◌^◌, ◌≡◌, pos, negsuc, List, [], ◌∷◌, ◌++◌, true, length}
-use Rattle.std.specs.List.{AllByRecursion}
+use Rattle.std.specs.Prelude.{ℕ, ◌<◌, ◌≤◌, ◌^◌, ◌≡◌, pos, negsuc, List, [], ◌∷◌, ◌++◌, true, length, false, ◌==◌, ◌+◌, Some}
+use Rattle.std.specs.List.{AllByRecursion, flat_map}
+use Rattle.std.specs.Str.{byte}
 use Rattle.sql_base.specs.declared.values.Value.{Value}
 use Rattle.sql_base.specs.declared.values.Value.TheVariants.{Null, Int, Text, Bool as Truth}
 use Rattle.sql_base.specs.declared.values.Ty.{Ty}
@@ -12,8 +13,8 @@ use Rattle.sql_base.specs.declared.exprs.Expr.TheVariants as e
 use Rattle.sql_base.specs.declared.exprs.Arm.{Arm}
 use Rattle.sql_text.specs.declared.tokens.Token.TheVariants as t
 use Rattle.sql_text.specs.declared.tokens.Token.{Token}
-use Rattle.sql_text.specs.Lexing.{is_name, is_short_text, tokens_of, places_of}
-use Rattle.sql_text.specs.Printing.{spelled, written}
+use Rattle.sql_text.specs.Lexing.{is_name, is_short_text, tokens_of, places_of, begins, literal}
+use Rattle.sql_text.specs.Printing.{spelled, written, doubled}
 
 -- a number of 64 bits with a sign, and a text of at most 4,096 bytes
 abbrev pub IsLiteral : Value → Type 0
@@ -74,3 +75,14 @@ TokensEnd = (text : List ℕ) → (tokens : List Token) × (tokens_of text ≡ t
 -- no token begins behind the end
 abbrev pub PlacesAreInside : Type 0
 PlacesAreInside = (text : List ℕ) → AllByRecursion (λ at. at ≤ length text) (places_of text)
+
+-- The text is the value with each quote written twice, then a quote that none follows, and the rest; these are so many bytes before the rest.
+pub record IsLiteralOf (text value : List ℕ) (len : ℕ) : Type 0 where
+  pub rest : List ℕ
+  pub parts : text ≡ flat_map doubled value ++ byte "'" ∷ rest
+  pub closed : begins (λ b. b == byte "'") rest ≡ false
+  pub count : len ≡ length (flat_map doubled value) + 1
+
+-- Behind its opening quote a literal is read exactly where there is one.
+abbrev pub LiteralsAreDoubled : Type 0
+LiteralsAreDoubled = (text value : List ℕ) (len : ℕ) → (literal false text ≡ Some (value, len) → IsLiteralOf text value len) × (IsLiteralOf text value len → literal false text ≡ Some (value, len))

@@ -1,6 +1,6 @@
 //! Laws of the definitions.
 
-ghost use Rattle.sql_text.specs.Laws.{TextHasItsTokens, TokensAreProper, TokensEnd, PlacesAreInside};
+ghost use Rattle.sql_text.specs.Laws.{TextHasItsTokens, TokensAreProper, TokensEnd, PlacesAreInside, LiteralsAreDoubled};
 
 /// The law that the canonical text of an expression has the tokens that the expression is written as.
 pub fn a_text_has_its_tokens()
@@ -20,4 +20,9 @@ pub fn tokens_end()
 /// The law that no token begins behind the end of the text.
 pub fn places_are_inside()
     ensures { PlacesAreInside }
+{}
+
+/// The law that a text literal is read exactly where its value stands with each quote written twice.
+pub fn literals_are_doubled()
+    ensures { LiteralsAreDoubled }
 {}

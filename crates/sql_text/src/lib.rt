@@ -11,7 +11,9 @@ mod values;
 mod write;
 
 pub use keys::Key;
-pub use laws::{a_text_has_its_tokens, places_are_inside, tokens_are_proper, tokens_end};
+pub use laws::{
+    a_text_has_its_tokens, literals_are_doubled, places_are_inside, tokens_are_proper, tokens_end,
+};
 pub use lexer::lex;
 pub use print::print_expr;
 pub use tokens::{Placed, Sign, Token};
