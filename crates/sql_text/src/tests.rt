@@ -97,40 +97,34 @@ fn texts_have_these_tokens(rt: HostRuntime) -> Result<(), Fail> {
     Ok(())
 }
 
-#[test]
-fn lengths_have_limits(rt: HostRuntime) -> Result<(), Fail> {
-    let mut text = b"'".to_vec(rt.alloc())?;
-    for _ in 0..4096 {
+fn begins_badly(alloc: Global, text: &[u8]) -> Result<bool, NoMemory> {
+    let tokens = lex(alloc, text)?;
+    Ok(match tokens.as_slice() {
+        [first, ..] => matches!(first.token, Token::Bad),
+        [] => false,
+    })
+}
+
+fn repeated(alloc: Global, front: &[u8], count: usize, behind: &[u8]) -> Result<Vec<u8>, NoMemory> {
+    let mut text = Vec::from_slice(alloc, front)?;
+    for _ in 0..count {
         text.push(b'a')?;
     }
-    let word = &text[1..];
-    assert!(rt;
-        matches!(
-            lex(rt.alloc(), &word[..63])?.as_slice()[0].token,
-            Token::Name(_)
-        )
-    );
-    assert!(rt;
-        matches!(
-            lex(rt.alloc(), &word[..64])?.as_slice()[0].token,
-            Token::Bad
-        )
-    );
-    text.push(b'\'')?;
-    assert!(rt;
-        matches!(
-            lex(rt.alloc(), text.as_slice())?.as_slice()[0].token,
-            Token::Text(_)
-        )
-    );
-    text[4097] = b'a';
-    text.push(b'\'')?;
-    assert!(rt;
-        matches!(
-            lex(rt.alloc(), text.as_slice())?.as_slice()[0].token,
-            Token::Bad
-        )
-    );
+    text.extend_from_slice(behind)?;
+    Ok(text)
+}
+
+#[test]
+fn lengths_have_limits(rt: HostRuntime) -> Result<(), Fail> {
+    let alloc = rt.alloc();
+    let name = repeated(alloc, b"_", 62, b"")?;
+    assert!(rt; !begins_badly(alloc, name.as_slice())?);
+    let name = repeated(alloc, b"_", 63, b"")?;
+    assert!(rt; begins_badly(alloc, name.as_slice())?);
+    let text = repeated(alloc, b"'", 4096, b"'")?;
+    assert!(rt; !begins_badly(alloc, text.as_slice())?);
+    let text = repeated(alloc, b"'", 4097, b"'")?;
+    assert!(rt; begins_badly(alloc, text.as_slice())?);
     Ok(())
 }
 
@@ -150,19 +144,34 @@ fn is_printed(alloc: Global, e: &Expr, text: &str) -> Result<bool, NoMemory> {
     Ok(print_expr(alloc, e)?.as_slice() == text.as_bytes())
 }
 
+// `CAST(age AS bigint) / 10 * 10`
+fn tenths(alloc: Global) -> Result<Expr, NoMemory> {
+    let age = Expr::Cast(Boxed::new(alloc, col(alloc, "age")?)?, Ty::Bigint);
+    let tenth = binary(alloc, BinOp::Div, age, int(10))?;
+    binary(alloc, BinOp::Mul, tenth, int(10))
+}
+
+// `a = b IS NULL`
+fn equal_or_not(alloc: Global) -> Result<Expr, NoMemory> {
+    let same = binary(alloc, BinOp::Eq, col(alloc, "a")?, col(alloc, "b")?)?;
+    Ok(Expr::IsNull(Boxed::new(alloc, same)?))
+}
+
+// `- a + -3`
+fn minus_three(alloc: Global) -> Result<Expr, NoMemory> {
+    let minus = Expr::Neg(Boxed::new(alloc, col(alloc, "a")?)?);
+    binary(alloc, BinOp::Add, minus, int(-3))
+}
+
 #[test]
 fn expressions_are_written_so(rt: HostRuntime) -> Result<(), Fail> {
     let alloc = rt.alloc();
-    let age = Expr::Cast(Boxed::new(alloc, col(alloc, "age")?)?, Ty::Bigint);
-    let tenth = binary(alloc, BinOp::Div, age, int(10))?;
-    let e = binary(alloc, BinOp::Mul, tenth, int(10))?;
-    assert!(rt; is_printed(alloc, &e, "((CAST(age AS bigint) / 10) * 10)")?);
-    let same = binary(alloc, BinOp::Eq, col(alloc, "a")?, col(alloc, "b")?)?;
-    let e = Expr::IsNull(Boxed::new(alloc, same)?);
-    assert!(rt; is_printed(alloc, &e, "((a = b) IS NULL)")?);
-    let minus = Expr::Neg(Boxed::new(alloc, col(alloc, "a")?)?);
-    let e = binary(alloc, BinOp::Add, minus, int(-3))?;
-    assert!(rt; is_printed(alloc, &e, "((- a) + -3)")?);
+    let written = is_printed(alloc, &tenths(alloc)?, "((CAST(age AS bigint) / 10) * 10)")?;
+    assert!(rt; written);
+    let written = is_printed(alloc, &equal_or_not(alloc)?, "((a = b) IS NULL)")?;
+    assert!(rt; written);
+    let written = is_printed(alloc, &minus_three(alloc)?, "((- a) + -3)")?;
+    assert!(rt; written);
     Ok(())
 }
 
