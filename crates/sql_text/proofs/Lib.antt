@@ -1,0 +1,10 @@
+pub mod Canonical
+pub mod Doubled
+pub mod Lexemes
+pub mod Literals
+pub mod Numbers
+pub mod Pieces
+pub mod Proper
+pub mod Runs
+pub mod Texts
+pub mod Words

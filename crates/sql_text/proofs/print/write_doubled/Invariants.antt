@@ -1,0 +1,7 @@
+use Rattle.std.proofs.Common.{◌≡◌, ◌++◌, drop}
+use Rattle.std.specs.List.{flat_map}
+use Rattle.sql_text.specs.Printing.{doubled}
+use Rattle.sql_text.proofs.print.write_doubled.Given as goal
+
+abbrev pub invariant-loop-byte : goal.invariant-loop-byte
+invariant-loop-byte l = l.out.items ++ flat_map doubled (drop l.byte-index l.text) ≡ l.fn.out.items ++ flat_map doubled l.text
