@@ -1,0 +1,12 @@
+//! Migrations in JSON.
+#![tactic(auto)]
+
+mod expressions;
+mod faults;
+pub mod laws;
+mod members;
+mod names;
+mod reading;
+
+pub use faults::JsonFault;
+pub use reading::read_migration;
