@@ -19,6 +19,7 @@ use Rattle.mig_json.specs.Fault.{demand, Reads}
 use Rattle.mig_json.specs.Member.{is_of, are_known}
 use Rattle.mig_json.specs.Migration.{IsUp, IsColumn, IsAddColumn, IsOperation, IsMigration, IsReading, FaultlessTextsAreRead, ReadingsHaveNoFault, TextsReadOnce}
 use Rattle.mig_json.specs.Reading.{needs, may_have, within, is_object, is_text, is_true, has_type, has_expression, only_in, single, type_of, name_fault, type_fault, nullable_fault, up_fault, column_parts, column_fault, add_column_parts, operation_fault, migration_parts, migration_fault, text_fault, text_in, type_in, up_in, column_of, add_column_of, operation_of, migration_of, text_migration, json_in, max_text}
+use Rattle.mig_json.proofs.Spelled.{spelled_reads, read_is_spelled}
 
 -- ---- what stands for a migration has no fault
 
@@ -29,7 +30,7 @@ known_object kind (Some ms) h = refl
 up_good : (at : ℕ) (o : Option Data) (up : Option Expr) → IsUp o up → (up_fault at o ≡ None) × (up_in o ≡ up)
 unfolding up_fault up_in
 up_good at None up h = (refl, sym h)
-up_good at (Some d) up (text, e, is, reads, made) = rw (is, reads, made) (refl, refl)
+up_good at (Some d) up (text, e, is, spells, made) = rw (is, spelled_reads text e spells, made) (refl, refl)
 
 column_good : (at : ℕ) (d : Data) (c : ColumnDef) → IsColumn d c → column_fault at (Some d) ≡ None
 unfolding column_fault column_parts name_fault type_fault nullable_fault
@@ -120,7 +121,7 @@ nullable (Some (object_of ms)) h = cc
 
 made : (text : List ℕ) (o : Option Expr) → expression_in text ≡ o → is_some o ≡ true → IsUp (Some (string text)) o
 made text None e h = cc
-made text (Some up) e h = (text, up, refl, e, refl)
+made text (Some up) e h = (text, up, refl, read_is_spelled text up e, refl)
 
 up_exact : (o : Option Data) → may_have is_text o ≡ true → may_have has_expression o ≡ true → IsUp o (up_in o)
 unfolding up_in

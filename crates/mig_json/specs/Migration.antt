@@ -10,10 +10,10 @@ use Rattle.mig_lens.specs.declared.migrations.Migration.{Migration}
 use Rattle.mig_lens.specs.declared.migrations.Op.{Op}
 use Rattle.mig_lens.specs.declared.migrations.Op.TheVariants.{AddColumn}
 use Rattle.mig_json.specs.declared.members.Object.TheVariants as object
-use Rattle.mig_json.specs.Expression.{expression_in}
 use Rattle.mig_json.specs.Member.{is_of}
 use Rattle.mig_json.specs.Name.{is_name, is_part_name}
 use Rattle.mig_json.specs.Reading.{type_of, json_in, text_fault, max_text}
+use Rattle.mig_json.specs.Spelling.{Spells}
 
 -- a column that takes NULL, and of which nothing else is said
 abbrev pub nullable_column : List ℕ → Ty → ColumnDef
@@ -32,10 +32,10 @@ pub record IsColumn (d : Data) (column : ColumnDef) : Type 0 where
   pub nullable : get (codes "nullable") d ≡ Some (boolean true)
   pub is : column ≡ nullable_column name ty
 
--- an `up` that is absent is none, and one that is there is a text that reads as this expression
+-- an `up` that is absent is none, and one that is there is a text that spells this expression
 abbrev pub IsUp : Option Data → Option Expr → Type 0
 IsUp None up = up ≡ None
-IsUp (Some d) up = (text : List ℕ) × (e : Expr) × (d ≡ string text) × (expression_in text ≡ Some e) × (up ≡ Some e)
+IsUp (Some d) up = (text : List ℕ) × (e : Expr) × (d ≡ string text) × Spells text e × (up ≡ Some e)
 
 -- the value is what `add_column` holds
 pub record IsAddColumn (d : Data) (op : Op) : Type 0 where
