@@ -1,5 +1,5 @@
 -- What stands for a migration has no fault and reads as it, and what has no fault stands for one.
-use Rattle.std.proofs.Common.{◌≡◌, ℕ, ◌≤◌, List, [], ◌∷◌, length, Bool, true, false, codes, Option, Some, None, is_some, unwrap_or, option_and_then, refl, sym, ◌∙◌, ap, subst, arith}
+use Rattle.std.proofs.Common.{◌≡◌, ℕ, ◌≤◌, List, [], ◌∷◌, length, Bool, true, false, codes, Option, Some, None, is_some, unwrap_or, refl, sym, ◌∙◌, ap, subst, arith}
 use Rattle.std.specs.Prelude.{nat_le, ◌≢◌, Result, Ok, Err, IfOk, IfErr}
 use Rattle.std.specs.Option.{option_or}
 use Rattle.serde_json.specs.Data.{Data, Items, no_items, item, Members, null, boolean, number, string, array, object as object_of}
@@ -18,7 +18,7 @@ use Rattle.mig_json.specs.declared.faults.JsonFault.TheVariants.{NoMemory}
 use Rattle.mig_json.specs.Fault.{demand, Reads}
 use Rattle.mig_json.specs.Member.{is_of, are_known}
 use Rattle.mig_json.specs.Migration.{IsUp, IsColumn, IsAddColumn, IsOperation, IsMigration, IsReading, FaultlessTextsAreRead, ReadingsHaveNoFault, TextsReadOnce}
-use Rattle.mig_json.specs.Reading.{needs, may_have, within, is_object, is_text, is_true, has_type, has_expression, only_in, single, type_of, name_fault, type_fault, nullable_fault, up_fault, column_parts, column_fault, add_column_parts, operation_fault, migration_parts, migration_fault, text_fault, text_in, type_in, up_in, column_of, add_column_of, operation_of, migration_of, text_migration, json_in, max_text}
+use Rattle.mig_json.specs.Reading.{needs, may_have, within, is_text, is_true, has_type, has_expression, only_in, single, type_of, name_fault, type_fault, nullable_fault, up_fault, column_parts, column_fault, add_column_parts, operation_fault, migration_parts, migration_fault, text_fault, text_in, type_in, up_in, column_of, add_column_of, operation_of, migration_of, text_migration, max_text}
 use Rattle.mig_json.proofs.Spelled.{spelled_reads, read_is_spelled}
 
 -- ---- what stands for a migration has no fault

@@ -1,8 +1,8 @@
 -- A text that spells an expression reads as it, and one that reads as an expression spells it.
-use Rattle.std.proofs.Common.{◌≡◌, inl, inr, ◌⊎◌, ℕ, ◌+◌, ◌-◌, ◌≤◌, ℤ, pos, neg_ℤ, Bool, true, false, ◌&&◌, cond, eqb, List, [], ◌∷◌, ◌++◌, length, take, drop, refl, sym, ap, ◌∙◌, subst, arith, eq-eqb, length-append}
-use Rattle.std.specs.Prelude.{Option, Some, None, ◌==◌, not, nat_le, option_map, reverse}
-use Rattle.std.specs.Char.{is_ascii_digit, is_ascii_uppercase}
-use Rattle.std.specs.List.{list_all, list_any}
+use Rattle.std.proofs.Common.{◌≡◌, inl, inr, ◌⊎◌, ℕ, ◌-◌, ℤ, pos, neg_ℤ, Bool, true, false, ◌&&◌, cond, eqb, List, [], ◌∷◌, ◌++◌, length, take, drop, refl, sym, ap, ◌∙◌, subst, arith, eq-eqb, length-append}
+use Rattle.std.specs.Prelude.{Option, Some, None, not, nat_le, option_map, reverse}
+use Rattle.std.specs.Char.{is_ascii_digit}
+use Rattle.std.specs.List.{list_all}
 use Rattle.std.specs.Option.{option_or, option_and_then}
 use Rattle.std.specs.Str.{byte, bytes_eq}
 use Rattle.std.specs.Str.Parse.{digits_value}
@@ -16,7 +16,7 @@ use Rattle.sql_base.specs.declared.exprs.Expr.TheVariants.{Lit, Col}
 use Rattle.sql_base.specs.declared.values.Value.TheVariants.{Int, Text}
 use Rattle.mig_json.specs.Expression.{is_blank, is_word_byte, is_number, is_literal, is_identifier, has_capitals, is_reserved, folded, behind, before, between, kept, natural_in, signed_in, integer_in, literal_in, plain_name_in, quoted_name_in, name_in, column_in, bare_expression_in, expression_in, without_blanks, begins_a_word}
 use Rattle.mig_json.specs.Spelling.{IsBetween, IsInteger, IsLiteral, IsPlainName, IsQuotedName, IsBare, Spells}
-use Rattle.mig_json.proofs.Padding.{begins_with, all_reverse, IsBareText, both_cut, BothSplit, both_split}
+use Rattle.mig_json.proofs.Padding.{begins_with, all_reverse, IsBareText, both_cut, both_split}
 
 -- ---- between two bytes
 

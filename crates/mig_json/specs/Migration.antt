@@ -1,5 +1,5 @@
 -- The texts that are migrations, as a relation between a JSON value and what it stands for.
-use Rattle.std.specs.Prelude.{◌≡◌, ℕ, ◌≤◌, List, [], ◌∷◌, Bool, true, false, codes, length, Option, Some, None}
+use Rattle.std.specs.Prelude.{◌≡◌, ℕ, ◌≤◌, List, [], ◌∷◌, true, false, codes, length, Option, Some, None}
 use Rattle.serde_json.specs.Data.{Data, boolean, string, array, no_items, item}
 use Rattle.serde_json.specs.Find.{get}
 use Rattle.sql_base.specs.declared.exprs.Expr.{Expr}

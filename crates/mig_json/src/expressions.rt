@@ -204,33 +204,12 @@ fn has_capitals(word: &[u8]) -> bool
 fn is_reserved(word: &str) -> bool
     ensures { result ≡ spec.is_reserved word.now }
 {
-    matches!(
-        word,
-        "and"
-            | "as"
-            | "case"
-            | "cast"
-            | "delete"
-            | "else"
-            | "end"
-            | "false"
-            | "from"
-            | "insert"
-            | "into"
-            | "is"
-            | "not"
-            | "null"
-            | "or"
-            | "select"
-            | "set"
-            | "then"
-            | "to"
-            | "true"
-            | "update"
-            | "values"
-            | "when"
-            | "where"
-    )
+    match word {
+        "and" | "as" | "case" | "cast" | "delete" | "else" | "end" | "false" => true,
+        "from" | "insert" | "into" | "is" | "not" | "null" | "or" | "select" => true,
+        "set" | "then" | "to" | "true" | "update" | "values" | "when" | "where" => true,
+        _ => false,
+    }
 }
 
 fn folded(alloc: Global, word: &[u8]) -> Result<SqlText, NoMemory>

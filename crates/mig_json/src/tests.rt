@@ -163,10 +163,12 @@ fn outcome(alloc: Global, text: &[u8]) -> Result<String, Fail> {
 #[test]
 fn texts(rt: HostRuntime) -> Result<(), Fail> {
     for line in TEXTS.split('\n') {
-        if let Some((wanted, text)) = line.split_once(" <- ") {
-            let found = outcome(rt.alloc(), text.as_bytes())?;
-            assert_eq!(rt; found.as_str(), wanted, "{line}");
-        }
+        let Some((wanted, text)) = line.split_once(" <- ") else {
+            assert!(rt; line.is_empty(), "{line}");
+            continue;
+        };
+        let found = outcome(rt.alloc(), text.as_bytes())?;
+        assert_eq!(rt; found.as_str(), wanted, "{line}");
     }
     Ok(())
 }
@@ -174,13 +176,15 @@ fn texts(rt: HostRuntime) -> Result<(), Fail> {
 #[test]
 fn ups(rt: HostRuntime) -> Result<(), Fail> {
     for line in UPS.split('\n') {
-        if let Some((wanted, up)) = line.split_once(" <- ") {
-            let text = format!(in rt.alloc(); "{BEFORE}{up}{BEHIND}")?;
-            let found = outcome(rt.alloc(), text.as_bytes())?;
-            let found = found.as_str();
-            let found = found.strip_prefix("a t c text ").unwrap_or(found);
-            assert_eq!(rt; found, wanted, "{line}");
-        }
+        let Some((wanted, up)) = line.split_once(" <- ") else {
+            assert!(rt; line.is_empty(), "{line}");
+            continue;
+        };
+        let text = format!(in rt.alloc(); "{BEFORE}{up}{BEHIND}")?;
+        let found = outcome(rt.alloc(), text.as_bytes())?;
+        let found = found.as_str();
+        let found = found.strip_prefix("a t c text ").unwrap_or(found);
+        assert_eq!(rt; found, wanted, "{line}");
     }
     Ok(())
 }
