@@ -11,10 +11,10 @@ use crate::migrations::ColumnDef;
 use crate::planning::Draft;
 use crate::plans::{Fate, Plan};
 use crate::tables::{Table, has_column, has_constraint, table_meant};
-use sql_eval::operate::is_null;
 use sql_base::{
     Check, Column, Copying, Expr, List, Name, NoMemory, Schema, Shape, Unique, has_type,
 };
+use sql_eval::operate::is_null;
 use std::alloc::Global;
 
 /// The columns that a table may have.
