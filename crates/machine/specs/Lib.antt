@@ -1,0 +1,7 @@
+pub mod Accept
+pub mod Laws
+pub mod Migrate
+pub mod Standing
+pub mod State
+pub mod Statement
+pub mod Step

@@ -1,0 +1,9 @@
+//! The machine that the product is measured by: its states, what happens to them, and what it answers.
+#![tactic(auto)]
+
+mod events;
+pub mod laws;
+mod states;
+
+pub use events::{Asked, Entry, Event, Reading, Reply};
+pub use states::{Halves, Kept, Mode, State};
