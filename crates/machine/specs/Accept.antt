@@ -19,15 +19,10 @@ use Rattle.sql_eval.specs.Row.{row_fault, clash, least}
 use Rattle.mig_lens.specs.declared.columns.Side.{Side}
 use Rattle.mig_lens.specs.declared.columns.Side.TheVariants.{Old, New}
 use Rattle.mig_lens.specs.Plan.{Table, key_name}
+use Rattle.machine.specs.declared.causes.Cause.{Cause}
 use Rattle.machine.specs.declared.states.Kept.{Kept}
 use Rattle.machine.specs.declared.states.State.{State}
 use Rattle.machine.specs.State.{half, name_of, shape_of, table_on}
-
--- Why something isn't accepted: a code, what it is about where there is something to name, and the key of the row where it was found.
-pub record Cause : Type 0 where
-  pub code : Code
-  pub name : Option (List ℕ)
-  pub key : ℤ
 
 -- ---- faults and values
 

@@ -29,6 +29,7 @@ use Rattle.mig_lens.specs.Lens.{forward}
 use Rattle.mig_lens.specs.Plan.{Table, plan_of, table_numbered}
 use Rattle.machine.specs.declared.events.Asked.{Asked}
 use Rattle.machine.specs.declared.events.Asked.TheVariants.{Read, Refused as NotRead}
+use Rattle.machine.specs.declared.causes.Cause.{Cause}
 use Rattle.machine.specs.declared.events.Reply.{Reply}
 use Rattle.machine.specs.declared.events.Reply.TheVariants.{Start, Fill, Filled, Complete}
 use Rattle.machine.specs.declared.states.Halves.{Halves}
@@ -37,7 +38,7 @@ use Rattle.machine.specs.declared.states.Mode.{Mode}
 use Rattle.machine.specs.declared.states.Mode.TheVariants.{Calm, Both}
 use Rattle.machine.specs.declared.states.State.{State}
 use Rattle.machine.specs.State.{Shared, lens_among, missing_keys, name_of, number_of, put_rows, rows_of, shape_of, shared, table_on, unfilled, with_rows}
-use Rattle.machine.specs.Accept.{Cause, clashes, clashes_on, guarded, half_cause, max_weight, sound, without}
+use Rattle.machine.specs.Accept.{clashes, clashes_on, guarded, half_cause, max_weight, sound, without}
 use Rattle.machine.specs.Statement.{keys_of, made_row}
 
 -- The reply to an accepted command with the state after it; or why it is refused, which changes nothing.

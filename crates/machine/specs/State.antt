@@ -43,33 +43,32 @@ shape_of table = table.2
 abbrev pub path_name : List ℕ → List ℕ
 path_name version = codes "public_" ++ version
 
--- A version that stands: its name without public_, its side, and its tables.
+-- A version that stands: its side, and its tables.
 pub record Version : Type 0 where
-  pub name : List ℕ
   pub side : Side
   pub schema : Schema
 
--- The new version, while a migration is active.
-abbrev pub newer : Mode → Option Version
-newer Calm = None
-newer (Both name schema fates) = Some (record { name = name; side = New; schema = schema })
-
-abbrev pub current : State → Version
-current s = record { name = s.version; side = Old; schema = s.schema }
-
--- The version that stands on a side.
-abbrev pub version_on : State → Side → Option Version
-version_on s Old = Some (current s)
-version_on s New = newer s.mode
+-- The new version, while a migration is active, where it goes by this name in a path.
+abbrev pub newer_called : Mode → List ℕ → Option Version
+newer_called Calm named = None
+newer_called (Both name schema fates) named = if bytes_eq named (path_name name) then Some (record { side = New; schema = schema }) else None
 
 -- The version that goes by this name in a path, where one stands. (The two have different names.)
 abbrev pub version_called : State → List ℕ → Option Version
-version_called s named =
-    if bytes_eq named (path_name s.version) then Some (current s) else option_and_then (λ version. if bytes_eq named (path_name version.name) then Some version else None) (newer s.mode)
+version_called s named = if bytes_eq named (path_name s.version) then Some (record { side = Old; schema = s.schema }) else newer_called s.mode named
 
--- The table of a number in a version of a side.
+abbrev pub newer_schema : Mode → Option Schema
+newer_schema Calm = None
+newer_schema (Both name schema fates) = Some schema
+
+-- The tables of the version that stands on a side.
+abbrev pub schema_on : State → Side → Option Schema
+schema_on s Old = Some s.schema
+schema_on s New = newer_schema s.mode
+
+-- The table of a number in the version of a side.
 abbrev pub table_on : State → Side → ℕ → Option Table
-table_on s side number = option_and_then (λ version. table_numbered version.schema number) (version_on s side)
+table_on s side number = option_and_then (λ schema. table_numbered schema number) (schema_on s side)
 
 -- A table as a statement finds it: the side of its version, and what the version has of it.
 pub record Found : Type 0 where

@@ -26,13 +26,14 @@ use Rattle.sql_eval.specs.Typing.{type_of}
 use Rattle.mig_lens.specs.declared.columns.Side.{Side}
 use Rattle.mig_lens.specs.declared.columns.Side.TheVariants.{Old, New}
 use Rattle.mig_lens.specs.Lens.{backward, forward}
+use Rattle.machine.specs.declared.causes.Cause.{Cause}
 use Rattle.machine.specs.declared.events.Reply.{Reply}
 use Rattle.machine.specs.declared.events.Reply.TheVariants.{Insert, Select, Set, Error}
 use Rattle.machine.specs.declared.states.Halves.{Halves}
 use Rattle.machine.specs.declared.states.Kept.{Kept}
 use Rattle.machine.specs.declared.states.State.{State}
 use Rattle.machine.specs.State.{Found, Shared, number_of, put_rows, row_count, rows_of, shape_of, shared, shown, table_of, with_rows}
-use Rattle.machine.specs.Accept.{Cause, clashes, key_cause, sound, value_cause, without}
+use Rattle.machine.specs.Accept.{clashes, key_cause, sound, value_cause, without}
 
 -- The reply to an accepted statement with the state after it; or the reply to a refused one, which changes nothing.
 abbrev pub Outcome : Type 0

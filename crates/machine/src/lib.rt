@@ -1,9 +1,11 @@
 //! The machine that the product is measured by: its states, what happens to them, and what it answers.
 #![tactic(auto)]
 
+mod causes;
 mod events;
 pub mod laws;
 mod states;
+mod tables;
 
 pub use events::{Asked, Entry, Event, Reading, Reply};
 pub use states::{Halves, Kept, Mode, State};
