@@ -60,6 +60,10 @@ fault_name BadText = None
 fault_name TooLong = Some (codes "text")
 fault_name NoMemory = None
 
+-- A constraint or a limit of this name isn't met by the row of this key.
+abbrev pub constraint_cause : Code → List ℕ → ℤ → Cause
+constraint_cause code name key = record { code = code; name = Some name; key = key }
+
 -- An expression has no value over the row of this key.
 abbrev pub value_cause : ℤ → EvalFault → Cause
 value_cause key fault = record { code = fault_code fault; name = fault_name fault; key = key }
@@ -78,9 +82,9 @@ not_null_name table at = name_of table ++ (codes "_" ++ (column_name (shape_of t
 
 -- A fault of a row of this table, with the constraint's name; so too where a check has no value.
 abbrev pub row_cause : Table → ℤ → RowFault → Cause
-row_cause table key (row_fault_of.Null at) = record { code = C23502; name = Some (not_null_name table at); key = key }
-row_cause table key (row_fault_of.Check at) = record { code = C23514; name = Some (check_name (shape_of table) at); key = key }
-row_cause table key (row_fault_of.Eval at fault) = record { code = fault_code fault; name = Some (check_name (shape_of table) at); key = key }
+row_cause table key (row_fault_of.Null at) = constraint_cause C23502 (not_null_name table at) key
+row_cause table key (row_fault_of.Check at) = constraint_cause C23514 (check_name (shape_of table) at) key
+row_cause table key (row_fault_of.Eval at fault) = constraint_cause (fault_code fault) (check_name (shape_of table) at) key
 
 abbrev pub half_cause : Table → ℤ → List Value → Option Cause
 half_cause table key values = option_map (row_cause table key) (row_fault (shape_of table) values)
@@ -92,9 +96,11 @@ side_cause table key values = option_and_then (λ table. option_and_then (half_c
 abbrev pub is_heavy : Option (List Value) → Bool
 is_heavy values = option_map_or (λ values. nat_lt max_weight (weight values)) values false
 
+abbrev pub heavy_cause : ℤ → Cause
+heavy_cause key = constraint_cause C54000 (codes "row") key
+
 abbrev pub weight_cause : Kept → Option Cause
-weight_cause row =
-    if is_heavy row.halves.old || is_heavy row.halves.new then Some (record { code = C54000; name = Some (codes "row"); key = row.key }) else None
+weight_cause row = if is_heavy row.halves.old || is_heavy row.halves.new then Some (heavy_cause row.key) else None
 
 abbrev pub other : Side → Side
 other Old = New
@@ -119,20 +125,30 @@ has_key key rows = list_any (λ row. int_eq key row.key) rows
 abbrev pub times : ℤ → List Kept → ℕ
 times key rows = length (filter (λ row. int_eq key row.key) rows)
 
--- New rows of a table whose keys an older row has, or another new one: the least of these keys. The key's constraint has the table's name on the written side.
+-- The key's constraint has the table's name on the written side.
+abbrev pub taken_key : Table → ℤ → Cause
+taken_key table key = constraint_cause C23505 (key_name (name_of table)) key
+
+-- Whether an older row has the key of a new one, or another new one has it.
+abbrev pub is_taken : List Kept → List Kept → ℤ → Bool
+is_taken older new key = has_key key older || nat_lt 1 (times key new)
+
+-- The least key of new rows of which that is so.
 abbrev pub key_cause : Table → List Kept → List Kept → Option Cause
-key_cause table rows new =
-    option_map (λ key. record { code = C23505; name = Some (key_name (name_of table)); key = key })
-    (least (filter (λ key. has_key key rows || nat_lt 1 (times key new)) (map (λ row. row.key) new)))
+key_cause table older new = option_map (taken_key table) (least (filter (is_taken older new) (map (λ row. row.key) new)))
 
 -- The halves of a side that there are, by key.
 abbrev pub present : Side → List Kept → List (ℤ × List Value)
 present side rows = filter_map (λ row. option_map (λ values. (row.key, values)) (half side row.halves)) rows
 
+-- Whether the row of this key has the values of another one.
+abbrev pub has_clash : Unique → List (ℤ × List Value) → ℤ → Bool
+has_clash unique entries key = is_some (clash unique entries key)
+
 -- The least of these keys whose row has the same values, none of them NULL, as another row in the columns of the unique constraint.
 abbrev pub unique_cause : List (ℤ × List Value) → List ℤ → Unique → Option Cause
 unique_cause entries keys unique =
-    option_map (λ key. record { code = C23505; name = Some unique.name; key = key }) (least (filter (λ key. is_some (clash unique entries key)) keys))
+    option_map (constraint_cause C23505 unique.name) (least (filter (has_clash unique entries) keys))
 
 -- The first of these constraints of which there is one.
 abbrev pub uniques_cause : List (ℤ × List Value) → List ℤ → List Unique → Option Cause

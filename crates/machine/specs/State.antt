@@ -106,7 +106,7 @@ pub record Shared : Type 0 where
 abbrev pub shared : State → ℕ → Option Shared
 shared s number =
     option_and_then (λ old. option_and_then (λ new. option_map (λ lens. record { old = old; new = new; lens = lens })
-        (lens_between s.mode number)) (table_on s New number)) (table_on s Old number)
+    (lens_between s.mode number)) (table_on s New number)) (table_on s Old number)
 
 -- ---- rows
 
