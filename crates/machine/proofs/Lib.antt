@@ -1,2 +1,4 @@
 pub mod Placing
 pub mod Refusing
+pub mod Pairs
+pub mod Inserting
