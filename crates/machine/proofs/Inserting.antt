@@ -1,5 +1,5 @@
 -- An accepted statement leads from a state that stands to one that stands.
-use Rattle.std.proofs.Common.{◌≡◌, ◌⊎◌, inl, inr, ℕ, zero, suc, ◌+◌, ◌≤◌, ℤ, List, [], ◌∷◌, Bool, true, false, ◌&&◌, not, ◌==◌, Option, Some, None, Result, Ok, Err, refl, ◌∙◌, sym, ap, subst, if◌then◌else◌, length, map, take, zip, nat_lt, slice_get, slice_index_or, arith, option_and_then, option_map, ok_or}
+use Rattle.std.proofs.Common.{◌≡◌, ℕ, zero, suc, ◌+◌, ◌≤◌, ℤ, List, [], ◌∷◌, Bool, true, false, not, ◌==◌, Option, Some, None, Result, Ok, Err, refl, ◌∙◌, sym, ap, subst, if◌then◌else◌, length, map, take, zip, nat_lt, slice_get, slice_index_or, arith, option_and_then, option_map, ok_or}
 use Rattle.std.specs.List.{list_all}
 use Rattle.std.specs.Option.{option_or}
 use Rattle.std.proofs.lemmas.Bool.Decides.{nat_tests}
@@ -12,10 +12,9 @@ use Rattle.sql_base.specs.declared.exprs.Expr.TheOpen.{Expr-F}
 use Rattle.sql_base.specs.declared.shapes.Column.{Column}
 use Rattle.sql_base.specs.declared.shapes.Shape.{Shape}
 use Rattle.sql_base.specs.declared.stmts.Items.{Items}
-use Rattle.sql_base.specs.declared.stmts.Stmt.{Stmt}
 use Rattle.sql_base.specs.declared.stmts.Stmt.TheVariants.{Insert as InsertInto, Update, Delete, Query, SetPath}
 use Rattle.sql_base.specs.declared.values.Ty.{Ty}
-use Rattle.sql_base.specs.declared.values.Ty.TheVariants.{Bigint, Text, Boolean}
+use Rattle.sql_base.specs.declared.values.Ty.TheVariants.{Bigint, Text}
 use Rattle.sql_base.specs.declared.values.Value.{Value}
 use Rattle.sql_base.specs.declared.values.Value.TheVariants as value
 use Rattle.sql_base.specs.declared.values.Value.TheVariants.{Null}
@@ -26,7 +25,7 @@ use Rattle.mig_lens.specs.declared.columns.Side.TheVariants.{Old, New}
 use Rattle.mig_lens.specs.Lens.{backward, forward}
 use Rattle.mig_lens.specs.Plan.{Table}
 use Rattle.mig_lens.proofs.MadeHalves.{all_true, and_then_ok, backward_fits, both, forward_fits}
-use Rattle.machine.proofs.Pairs.{FoundStands, PairStands, found_stands, new_alone, old_alone, pair_stands, some_same}
+use Rattle.machine.proofs.Pairs.{FoundStands, found_stands, new_alone, old_alone, pair_stands, some_same}
 use Rattle.machine.proofs.Placing.{put_rows_ascend, put_rows_length, put_rows_stand, replaced_stands, rows_stand, with_rows_count}
 use Rattle.machine.specs.declared.events.Reading.{Reading}
 use Rattle.machine.specs.declared.events.Reading.TheVariants.{Stmt as Read, Syntax}
@@ -36,9 +35,9 @@ use Rattle.machine.specs.declared.states.Halves.{Halves}
 use Rattle.machine.specs.declared.states.Kept.{Kept}
 use Rattle.machine.specs.declared.states.State.{State}
 use Rattle.machine.specs.State.{Found, Shared, number_of, put_rows, row_count, rows_of, shape_of, shared, table_of, table_on, with_rows}
-use Rattle.machine.specs.Accept.{Cause, clashes, key_cause, sound, without, wrong}
+use Rattle.machine.specs.Accept.{clashes, key_cause, sound, without, wrong}
 use Rattle.machine.specs.Standing.{HalfStands, IsState, NewStands, RowStands, RowsStand, may_miss}
-use Rattle.machine.specs.Statement.{Outcome, answer, are_names_of, find_table, insert, inserted_rows, integer, key_of, keys_of, literal_at, literal_for, literals, long_reply, made_row, max_reply, max_rows, new_halves, new_row, new_values, no_table, or_reply, picked_row, refused_row, select, select_rows, syntax, together, too_many_rows, typed, untyped, values_of, write, written, written_beside}
+use Rattle.machine.specs.Statement.{Outcome, are_names_of, find_table, insert, inserted_rows, integer, key_of, keys_of, literal_at, literal_for, literals, long_reply, made_row, max_reply, max_rows, new_halves, new_row, new_values, no_table, or_reply, picked_row, refused_row, select, select_rows, syntax, together, too_many_rows, typed, untyped, values_of, write, written}
 use Rattle.machine.specs.Step.{line_outcome}
 
 -- ---- outcomes
@@ -59,7 +58,7 @@ ok_or_ok : {T E : Type 0} (o : Option T) (fault : E) (x : T) → ok_or o fault �
 ok_or_ok None fault x h = cc
 ok_or_ok (Some y) fault x h = ap Some (ok_same y x h)
 
-either_none : {T : Type 0} (a b : Option T) → option_or a b ≡ None → (a ≡ None) × (b ≡ None)
+pub either_none : {T : Type 0} (a b : Option T) → option_or a b ≡ None → (a ≡ None) × (b ≡ None)
 either_none None b h = (refl, h)
 either_none (Some x) b h = cc
 

@@ -2,3 +2,4 @@ pub mod Placing
 pub mod Refusing
 pub mod Pairs
 pub mod Inserting
+pub mod Choosing
