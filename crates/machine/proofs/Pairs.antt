@@ -1,14 +1,11 @@
 -- The tables of a state that stands: those that one version has, and those that both have.
-use Rattle.std.proofs.Common.{◌≡◌, ◌⊎◌, inl, inr, ℕ, ℤ, List, [], ◌∷◌, Bool, true, false, ◌&&◌, ◌||◌, not, ◌==◌, Option, Some, None, refl, ◌∙◌, sym, ap, subst, if◌then◌else◌, map, find, nat_eq, arith, option_map, option_and_then}
+use Rattle.std.proofs.Common.{◌≡◌, ℕ, List, [], ◌∷◌, Bool, true, false, ◌&&◌, not, ◌==◌, Option, Some, None, refl, ◌∙◌, sym, ap, subst, if◌then◌else◌, map, find, nat_eq, arith, option_map, option_and_then}
 use Rattle.std.specs.List.{list_all, list_any}
 use Rattle.std.specs.Option.{option_or}
 use Rattle.std.specs.Str.{bytes_eq}
 use Rattle.std.proofs.lemmas.Bool.Decides.{nat_tests}
-use Rattle.sql_base.specs.declared.shapes.Schema.{Schema}
-use Rattle.sql_base.specs.declared.shapes.Shape.{Shape}
 use Rattle.sql_eval.specs.Shape.{WellFormed}
 use Rattle.mig_lens.specs.declared.columns.Lens.{Lens}
-use Rattle.mig_lens.specs.declared.columns.Side.{Side}
 use Rattle.mig_lens.specs.declared.columns.Side.TheVariants.{Old, New}
 use Rattle.mig_lens.specs.Laws.{IsSchema, numbers_differ}
 use Rattle.mig_lens.specs.Lens.{IsWellFormed, fits}
@@ -20,7 +17,7 @@ use Rattle.machine.specs.declared.states.State.{State}
 use Rattle.machine.specs.State.{Found, Shared, Version, lens_between, current, name_of, newer, number_of, path_name, shape_of, shared, table_in, table_of, table_on, table_through, version_called, version_on}
 use Rattle.machine.proofs.Placing.{neither}
 use Rattle.machine.specs.Migrate.{numbers_of}
-use Rattle.machine.specs.Standing.{IsState, ModeStands, VersionStands, has_all}
+use Rattle.machine.specs.Standing.{IsState, ModeStands}
 
 pub some_same : {X : Type 0} (a b : X) → Some a ≡ Some b → a ≡ b
 some_same a b h = cc

@@ -1,6 +1,5 @@
 -- Rows and tables under changes: rows that are put in their places, and a table whose rows are replaced.
-use Rattle.std.proofs.Common.{◌≡◌, ◌⊎◌, inl, inr, ℕ, zero, suc, ◌+◌, ◌≤◌, ◌<◌, ℤ, List, [], ◌∷◌, Bool, true, false, ◌&&◌, ◌||◌, ◌==◌, Option, Some, None, refl, ◌∙◌, sym, ap, subst, if◌then◌else◌, length, map, find, sum_by, arith, le_trans, le_refl, lt_of_le_of_lt, le_of_lt, le_of_eq, nat_eq, bytes_eq, int_cmp, int_eq, Ordering, Less, Equal, Greater}
-use Rattle.std.specs.Cmp.{IsTotalOrder}
+use Rattle.std.proofs.Common.{◌≡◌, ℕ, ◌+◌, ◌≤◌, ℤ, List, [], ◌∷◌, Bool, true, false, ◌&&◌, ◌||◌, ◌==◌, Some, refl, ◌∙◌, sym, ap, subst, if◌then◌else◌, length, map, find, sum_by, arith, le_refl, lt_of_le_of_lt, le_of_lt, le_of_eq, nat_eq, bytes_eq, int_cmp, int_eq, Ordering, Less, Equal, Greater}
 use Rattle.std.specs.List.{list_all, list_any}
 use Rattle.std.specs.Option.{option_map_or}
 use Rattle.std.specs.Ordering.{match_ordering, ordering_reverse, is_eq}
@@ -9,7 +8,6 @@ use Rattle.std.proofs.lemmas.Cmp.{int_cmp_total, int_ranked}
 use Rattle.std.proofs.lemmas.List.Sums.{sum_by-cons}
 use Rattle.sql_base.specs.declared.shapes.Schema.{Schema}
 use Rattle.mig_lens.specs.declared.columns.Side.TheVariants.{Old, New}
-use Rattle.mig_lens.specs.declared.plans.Fate.{Fate}
 use Rattle.mig_lens.specs.Laws.{Joins}
 use Rattle.machine.specs.declared.states.Kept.{Kept}
 use Rattle.machine.specs.declared.states.Mode.{Mode}
@@ -19,7 +17,7 @@ use Rattle.machine.specs.State.{put_row, put_rows, row_count, rows_of, shared, t
 use Rattle.machine.specs.Accept.{has_key}
 use Rattle.machine.specs.Statement.{keys_of, max_rows}
 use Rattle.machine.specs.Migrate.{numbers_of}
-use Rattle.machine.specs.Standing.{Ascends, HalfStands, IsState, ModeStands, NewStands, NewerStands, NumbersAscend, RowStands, RowsStand, TablesStand, VersionStands, may_miss}
+use Rattle.machine.specs.Standing.{Ascends, HalfStands, IsState, ModeStands, NewStands, NumbersAscend, RowStands, RowsStand, TablesStand, VersionStands, may_miss}
 
 -- ---- keys in order
 
