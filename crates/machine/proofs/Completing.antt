@@ -5,11 +5,10 @@ use Rattle.std.specs.List.{AllByRecursion as Each, filter, list_any}
 use Rattle.std.specs.Option.{option_and_then, option_map, option_map_or, option_or}
 use Rattle.std.proofs.lemmas.List.{length-map}
 use Rattle.sql_base.specs.declared.shapes.Schema.{Schema}
-use Rattle.sql_base.specs.declared.shapes.Shape.{Shape}
 use Rattle.sql_base.specs.declared.values.Value.{Value}
 use Rattle.sql_eval.specs.Row.{least}
 use Rattle.mig_lens.specs.declared.columns.Lens.{Lens}
-use Rattle.mig_lens.specs.declared.columns.Side.TheVariants.{Old, New}
+use Rattle.mig_lens.specs.declared.columns.Side.TheVariants.{New}
 use Rattle.mig_lens.specs.declared.faults.Kind.{Kind}
 use Rattle.mig_lens.specs.declared.faults.Kind.TheVariants as kind
 use Rattle.mig_lens.specs.declared.faults.Refusal.{Refusal}
@@ -23,10 +22,11 @@ use Rattle.machine.specs.declared.states.Mode.{Mode}
 use Rattle.machine.specs.declared.states.Mode.TheVariants.{Calm, Both}
 use Rattle.machine.specs.declared.states.State.{State}
 use Rattle.machine.specs.Accept.{without}
-use Rattle.machine.specs.State.{Shared, lens_between, name_of, newer, row_count, rows_of, shared, table_on}
+use Rattle.machine.specs.State.{Shared, name_of, newer, row_count, rows_of, shared, table_on}
 use Rattle.machine.specs.Statement.{max_rows}
 use Rattle.machine.specs.Migrate.{CommandOutcome, complete, completed, completed_row, finish, invalid, may_not_complete, not_filled, not_filled_in, not_valid, numbers_of, tidied}
 use Rattle.machine.specs.Standing.{HalfStands, IsState, ModeStands, NewStands, NewerStands, NumbersAscend, RowStands, StepsStand, TablesStand, VersionStands, may_miss}
+use Rattle.machine.proofs.Pairing.{Pair, on_new, paired}
 use Rattle.machine.proofs.Moving.{Carries, IsFound, Rows, ascends_mapped, counts_kept, each_among, each_both, each_found, each_so, filter_all, new_half, numbers, numbers_kept, rows_mapped, tables_mapped, tables_moved}
 
 -- what is accepted, and that nothing was wrong
@@ -58,37 +58,6 @@ tidied_stands s stands is = by_test (s.left == 2)
     by_test : (b : Bool) → IsState (if◌then◌else◌ {A = Reply × State} b (Complete 2, record s { left = 1 }) (Complete 3, record s { left = 0; kind = kind.Nothing })).1
     by_test true = tidied_state s 1 s.kind stands is (subst (λ k. StepsStand k 1) (sym is) (inr refl))
     by_test false = tidied_state s 0 kind.Nothing stands is refl
-
--- ---- tables that both versions have
-
-shape_found : (found : Option Table) (shape : Shape) → option_map (λ table. table.2) found ≡ Some shape → (table : Table) × (found ≡ Some table)
-shape_found None shape h = cc
-shape_found (Some table) shape h = (table, refl)
-
-both_have : (s : State) (number : ℕ) (old new : Table) (lens : Lens) → table_on s Old number ≡ Some old → table_on s New number ≡ Some new → lens_between s.mode number ≡ Some lens → shared s number ≡ Some (record { old = old; new = new; lens = lens })
-both_have s number old new lens a b c = rw (a, b, c)
-
--- The new version's tables, while a migration is active.
-pub on_new : (s : State) (name : List ℕ) (schema : Schema) (fates : List (ℕ × Fate)) → s.mode ≡ Both name schema fates → (number : ℕ) → table_on s New number ≡ table_numbered schema number
-on_new s name schema fates is number = ap (λ m. option_and_then (λ version. table_numbered version.schema number) (newer m)) is
-
-record Pairs (s : State) (schema : Schema) (number : ℕ) : Type 0 where
-  pair : Shared
-  is_shared : shared s number ≡ Some pair
-  in_new : table_numbered schema number ≡ Some pair.new
-
--- Each table of the state is in both.
-paired : (s : State) (name : List ℕ) (schema : Schema) (fates : List (ℕ × Fate)) → s.mode ≡ Both name schema fates → NewerStands s name schema fates → (number : ℕ) → list_any (nat_eq number) (numbers_of s) ≡ true → Pairs s schema number
-paired s name schema fates is stands number among =
-    let kept = stands.kept number among in
-    let joined = stands.joined number kept.0 kept.1 in
-    let old = shape_found (table_numbered s.schema number) joined.before joined.in_old in
-    let new = shape_found (table_numbered schema number) joined.after joined.in_new in
-    record {
-      pair = record { old = old.0; new = new.0; lens = kept.0 };
-      is_shared = both_have s number old.0 new.0 kept.0 old.1 (on_new s name schema fates is number ∙ new.1) (ap (λ m. lens_between m number) is ∙ kept.1);
-      in_new = new.1;
-    }
 
 -- ---- no new half is missing
 
@@ -141,20 +110,34 @@ completed_row_stands s name schema fates is number row filled stands =
       new = alone (table_numbered schema number) row.key;
     }
 
-whole_tables : (s : State) (schema : Schema) → NumbersAscend (numbers_of s) → Each (λ table. Pairs s schema table.0) s.tables → not_filled s (numbers_of s) ≡ None → Each (λ table. Each IsFilled table.1) s.tables
-whole_tables s schema ascend pairs none =
-    each_both (IsFound s.tables) (λ u. Pairs s schema u.0 × (not_filled_in s u.0 ≡ None)) (λ u. Each IsFilled u.1) whole s.tables (each_found s.tables ascend)
-    (each_both (λ u. Pairs s schema u.0) (λ u. not_filled_in s u.0 ≡ None) (λ u. Pairs s schema u.0 × (not_filled_in s u.0 ≡ None)) (λ u p q. (p, q)) s.tables pairs (all_filled s s.tables none))
+-- A table that both versions have.
+abbrev IsPaired : State → Rows → Type 0
+IsPaired s table = (lens : Lens) × Pair s table.0 lens
+
+all_paired : (s : State) (name : List ℕ) (schema : Schema) (fates : List (ℕ × Fate)) → s.mode ≡ Both name schema fates → NewerStands s name schema fates → Each (IsPaired s) s.tables
+all_paired s name schema fates is newer = each_so (λ u. list_any (nat_eq u.0) (numbers_of s) ≡ true) (IsPaired s) pair s.tables (each_among s.tables)
   where
-    whole : (u : Rows) → IsFound s.tables u → Pairs s schema u.0 × (not_filled_in s u.0 ≡ None) → Each IsFilled u.1
-    whole u found h = filled_in s u.0 h.0.pair u.1 h.0.is_shared (ap (λ f. option_map_or (λ table. table.1) f []) found) h.1
+    pair : (u : Rows) → list_any (nat_eq u.0) (numbers_of s) ≡ true → IsPaired s u
+    pair u among =
+        let kept = newer.kept u.0 among in
+        (kept.0, paired s name schema fates is u.0 kept.0 kept.1 (newer.joined u.0 kept.0 kept.1))
+
+whole_tables : (s : State) → NumbersAscend (numbers_of s) → Each (IsPaired s) s.tables → not_filled s (numbers_of s) ≡ None → Each (λ table. Each IsFilled table.1) s.tables
+whole_tables s ascend pairs none =
+    each_both (IsFound s.tables) (λ u. IsPaired s u × (not_filled_in s u.0 ≡ None)) (λ u. Each IsFilled u.1) whole s.tables (each_found s.tables ascend)
+    (each_both (IsPaired s) (λ u. not_filled_in s u.0 ≡ None) (λ u. IsPaired s u × (not_filled_in s u.0 ≡ None)) (λ u p q. (p, q)) s.tables pairs (all_filled s s.tables none))
+  where
+    whole : (u : Rows) → IsFound s.tables u → IsPaired s u × (not_filled_in s u.0 ≡ None) → Each IsFilled u.1
+    whole u found h =
+        let pair = h.0.1 in
+        filled_in s u.0 (record { old = pair.old; new = pair.new; lens = h.0.0 }) u.1 pair.is_shared (ap (λ f. option_map_or (λ table. table.1) f []) found) h.1
 
 completed_state : (s : State) (name : List ℕ) (schema : Schema) (fates : List (ℕ × Fate)) → s.mode ≡ Both name schema fates → IsState s → NewerStands s name schema fates → not_filled s (numbers_of s) ≡ None → IsState (completed s name schema)
 completed_state s name schema fates is stands newer none =
     let t = completed s name schema in
-    let pairs = each_so (λ u. list_any (nat_eq u.0) (numbers_of s) ≡ true) (λ u. Pairs s schema u.0) (λ u. paired s name schema fates is newer u.0) s.tables (each_among s.tables) in
-    let whole = whole_tables s schema stands.numbers pairs none in
-    let stay = each_so (λ u. Pairs s schema u.0) (λ u. is_some (table_numbered schema u.0) ≡ true) (λ u p. ap is_some p.in_new) s.tables pairs in
+    let pairs = all_paired s name schema fates is newer in
+    let whole = whole_tables s stands.numbers pairs none in
+    let stay = each_so (IsPaired s) (λ u. is_some (table_numbered schema u.0) ≡ true) (λ u p. ap is_some (sym (on_new s name schema fates is u.0) ∙ p.1.in_new)) s.tables pairs in
     let same_tables : t.tables ≡ map completed_table s.tables = ap (map completed_table) (filter_all (λ u. is_some (table_numbered schema u.0)) s.tables stay) in
     let same_numbers : numbers_of t ≡ numbers_of s = ap numbers same_tables ∙ numbers_kept completed_table (λ u. refl) s.tables in
     let same_count : row_count t ≡ row_count s = ap (sum_by (λ u. length u.1)) same_tables ∙ counts_kept completed_table (λ u. length-map u.1 completed_row) s.tables in
