@@ -2,7 +2,7 @@
 use Rattle.std.proofs.Common.{◌≡◌, ◌∙◌, inl, inr, ℕ, ◌≤◌, ℤ, List, [], ◌∷◌, Bool, true, false, cond, Option, Some, None, Ok, Err, length, map, ap, refl, sym, subst}
 use Rattle.std.specs.Prelude.{◌==◌, is_none, is_some, nat_eq, sum_by, if◌then◌else◌}
 use Rattle.std.specs.List.{AllByRecursion as Each, filter, list_any}
-use Rattle.std.specs.Option.{option_and_then, option_map, option_map_or, option_or}
+use Rattle.std.specs.Option.{option_and_then, option_map, option_map_or}
 use Rattle.std.proofs.lemmas.List.{length-map}
 use Rattle.sql_base.specs.declared.shapes.Schema.{Schema}
 use Rattle.sql_base.specs.declared.values.Value.{Value}
@@ -21,18 +21,13 @@ use Rattle.machine.specs.declared.states.Kept.{Kept}
 use Rattle.machine.specs.declared.states.Mode.{Mode}
 use Rattle.machine.specs.declared.states.Mode.TheVariants.{Calm, Both}
 use Rattle.machine.specs.declared.states.State.{State}
-use Rattle.machine.specs.Accept.{without}
 use Rattle.machine.specs.State.{Shared, name_of, newer, row_count, rows_of, shared, table_on}
 use Rattle.machine.specs.Statement.{max_rows}
 use Rattle.machine.specs.Migrate.{CommandOutcome, complete, completed, completed_row, finish, invalid, may_not_complete, not_filled, not_filled_in, not_valid, numbers_of, tidied}
 use Rattle.machine.specs.Standing.{HalfStands, IsState, ModeStands, NewStands, NewerStands, NumbersAscend, RowStands, StepsStand, TablesStand, VersionStands, may_miss}
 use Rattle.machine.proofs.Pairing.{Pair, on_new, paired}
+use Rattle.machine.proofs.Accepting.{neither, without_ok}
 use Rattle.machine.proofs.Moving.{Carries, IsFound, Rows, ascends_mapped, counts_kept, each_among, each_both, each_found, each_so, filter_all, new_half, numbers, numbers_kept, rows_mapped, tables_mapped, tables_moved}
-
--- what is accepted, and that nothing was wrong
-without_ok : {T E : Type 0} (fault : Option E) (value accepted : T) → without fault value ≡ Ok accepted → (fault ≡ None) × (accepted ≡ value)
-without_ok None value accepted h = (refl, cc)
-without_ok (Some fault) value accepted h = cc
 
 -- ---- tidying
 
@@ -60,10 +55,6 @@ tidied_stands s stands is = by_test (s.left == 2)
     by_test false = tidied_state s 0 kind.Nothing stands is refl
 
 -- ---- no new half is missing
-
-neither : {X : Type 0} (a b : Option X) → option_or a b ≡ None → (a ≡ None) × (b ≡ None)
-neither None b h = (refl, h)
-neither (Some x) b h = cc
 
 all_filled : (s : State) (tables : List Rows) → not_filled s (numbers tables) ≡ None → Each (λ table. not_filled_in s table.0 ≡ None) tables
 all_filled s [] h = tt
