@@ -2,4 +2,6 @@ pub mod Accepting
 pub mod Completing
 pub mod Moving
 pub mod Pairing
+pub mod Placing
+pub mod Refusing
 pub mod Starting
