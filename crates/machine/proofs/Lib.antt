@@ -1,5 +1,10 @@
+pub mod Accepting
+pub mod Choosing
+pub mod Completing
+pub mod Inserting
+pub mod Moving
+pub mod Pairing
+pub mod Pairs
 pub mod Placing
 pub mod Refusing
-pub mod Pairs
-pub mod Inserting
-pub mod Choosing
+pub mod Starting
