@@ -1,5 +1,6 @@
 pub mod Accepting
 pub mod Completing
+pub mod Filling
 pub mod Moving
 pub mod Pairing
 pub mod Placing
