@@ -25,6 +25,7 @@ use Rattle.machine.specs.State.{Shared, name_of, newer, row_count, rows_of, shar
 use Rattle.machine.specs.Statement.{max_rows}
 use Rattle.machine.specs.Migrate.{CommandOutcome, complete, completed, completed_row, finish, invalid, may_not_complete, not_filled, not_filled_in, not_valid, numbers_of, tidied}
 use Rattle.machine.specs.Standing.{HalfStands, IsState, ModeStands, NewStands, NewerStands, NumbersAscend, RowStands, StepsStand, TablesStand, VersionStands, may_miss}
+use Rattle.machine.proofs.Placing.{row_carries}
 use Rattle.machine.proofs.Pairing.{Pair, on_new, paired}
 use Rattle.machine.proofs.Accepting.{neither, without_ok}
 use Rattle.machine.proofs.Moving.{Carries, IsFound, Rows, ascends_mapped, counts_kept, each_among, each_both, each_found, each_so, filter_all, new_half, numbers, numbers_kept, rows_mapped, tables_mapped, tables_moved}
@@ -43,7 +44,7 @@ tidied_state s left k stands is steps =
       version = stands.version;
       mode = calm_mode s t s.mode is stands.mode;
       numbers = stands.numbers;
-      tables = tables_moved s t (λ number row stand. record { old = stand.old; new = stand.new }) s.tables stands.tables;
+      tables = tables_moved s t (row_carries s t refl refl) s.tables stands.tables;
       few = stands.few;
     }
 

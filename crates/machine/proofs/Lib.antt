@@ -1,6 +1,7 @@
 pub mod Accepting
 pub mod Choosing
 pub mod Completing
+pub mod Filling
 pub mod Inserting
 pub mod Moving
 pub mod Pairing

@@ -37,7 +37,7 @@ filter_all p (x ∷ xs) h = ap (λ b. cond b (x ∷ filter p xs) (filter p xs)) 
 
 -- ---- tables by their numbers
 
-either_way : (a b : Bool) → b ≡ true → (a || b) ≡ true
+pub either_way : (a b : Bool) → b ≡ true → (a || b) ≡ true
 either_way true b h = refl
 either_way false b h = h
 
