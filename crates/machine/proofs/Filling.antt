@@ -13,7 +13,7 @@ use Rattle.mig_lens.specs.declared.columns.Lens.{Lens}
 use Rattle.mig_lens.specs.declared.columns.Side.TheVariants.{New}
 use Rattle.mig_lens.specs.Lens.{forward}
 use Rattle.mig_lens.specs.Plan.{Table}
-use Rattle.mig_lens.proofs.MadeHalves.{all_true, and_then_ok, both}
+use Rattle.mig_lens.proofs.MadeHalves.{all_true, and_then_ok}
 use Rattle.machine.specs.declared.events.Reply.{Reply}
 use Rattle.machine.specs.declared.events.Reply.TheVariants.{Filled}
 use Rattle.machine.specs.declared.states.Halves.{Halves}

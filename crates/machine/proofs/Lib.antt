@@ -8,4 +8,5 @@ pub mod Pairing
 pub mod Pairs
 pub mod Placing
 pub mod Refusing
+pub mod Running
 pub mod Starting
