@@ -5,7 +5,7 @@ use Rattle.std.specs.Option.{option_map_or, option_or}
 use Rattle.std.specs.Ordering.{is_eq, ordering_reverse}
 use Rattle.std.proofs.lemmas.Cmp.{int_cmp_total, tied_itself}
 use Rattle.mig_lens.specs.declared.faults.Refusal.{Refusal}
-use Rattle.machine.proofs.Inserting.{either_none}
+use Rattle.machine.proofs.Accepting.{either_none}
 use Rattle.machine.proofs.Placing.{Above, above_less, ascends_above, ascends_rest, neither, rows_stand}
 use Rattle.machine.specs.declared.events.Event.TheVariants.{Said, Start, Fill, Complete}
 use Rattle.machine.specs.declared.events.Reply.{Reply}

@@ -26,9 +26,10 @@ use Rattle.machine.specs.Statement.{max_rows}
 use Rattle.machine.specs.Migrate.{CommandOutcome, complete, completed, completed_row, finish, invalid, may_not_complete, not_filled, not_filled_in, not_valid, numbers_of, tidied}
 use Rattle.machine.specs.Standing.{HalfStands, IsState, ModeStands, NewStands, NewerStands, NumbersAscend, RowStands, StepsStand, TablesStand, VersionStands, may_miss}
 use Rattle.machine.proofs.Placing.{row_carries}
-use Rattle.machine.proofs.Pairing.{Pair, on_new, paired}
-use Rattle.machine.proofs.Accepting.{neither, without_ok}
-use Rattle.machine.proofs.Moving.{Carries, IsFound, Rows, ascends_mapped, counts_kept, each_among, each_both, each_found, each_so, filter_all, new_half, numbers, numbers_kept, rows_mapped, tables_mapped, tables_moved}
+use Rattle.machine.proofs.StandingHalves.{new_half}
+use Rattle.machine.proofs.Joining.{Pair, on_new, paired}
+use Rattle.machine.proofs.Accepting.{either_none, without_ok}
+use Rattle.machine.proofs.Moving.{Carries, IsFound, Rows, ascends_mapped, counts_kept, each_among, each_both, each_found, each_so, filter_all, numbers, numbers_kept, rows_mapped, tables_mapped, tables_moved}
 
 -- ---- tidying
 
@@ -60,7 +61,7 @@ tidied_stands s stands is = by_test (s.left == 2)
 all_filled : (s : State) (tables : List Rows) → not_filled s (numbers tables) ≡ None → Each (λ table. not_filled_in s table.0 ≡ None) tables
 all_filled s [] h = tt
 all_filled s (t ∷ ts) h =
-    let parts = neither (not_filled_in s t.0) (not_filled s (numbers ts)) h in
+    let parts = either_none (not_filled_in s t.0) (not_filled s (numbers ts)) h in
     (parts.0, all_filled s ts parts.1)
 
 no_least : (keys : List ℤ) (refuse : ℤ → Refusal) → option_map refuse (least keys) ≡ None → keys ≡ []
@@ -129,7 +130,7 @@ completed_state s name schema fates is stands newer none =
     let t = completed s name schema in
     let pairs = all_paired s name schema fates is newer in
     let whole = whole_tables s stands.numbers pairs none in
-    let stay = each_so (IsPaired s) (λ u. is_some (table_numbered schema u.0) ≡ true) (λ u p. ap is_some (sym (on_new s name schema fates is u.0) ∙ p.1.in_new)) s.tables pairs in
+    let stay = each_so (IsPaired s) (λ u. is_some (table_numbered schema u.0) ≡ true) (λ u p. ap is_some (sym (on_new s name schema fates is u.0) ∙ p.1.stands.new)) s.tables pairs in
     let same_tables : t.tables ≡ map completed_table s.tables = ap (map completed_table) (filter_all (λ u. is_some (table_numbered schema u.0)) s.tables stay) in
     let same_numbers : numbers_of t ≡ numbers_of s = ap numbers same_tables ∙ numbers_kept completed_table (λ u. refl) s.tables in
     let same_count : row_count t ≡ row_count s = ap (sum_by (λ u. length u.1)) same_tables ∙ counts_kept completed_table (λ u. length-map u.1 completed_row) s.tables in
@@ -154,9 +155,9 @@ finished_stands : (s t : State) (reply : Reply) (m : Mode) → s.mode ≡ m → 
 finished_stands s t reply Calm is stands h = cc
 finished_stands s t reply (Both name schema fates) is stands h =
     let done = without_ok (may_not_complete s) (Complete 1, completed s name schema) (reply, t) h in
-    let none = neither (not_filled s (numbers_of s)) (option_map not_valid (invalid s (numbers_of s))) done.0 in
+    let none = either_none (not_filled s (numbers_of s)) (option_map not_valid (invalid s (numbers_of s))) done.0 in
     let newer : NewerStands s name schema fates = subst (ModeStands s) is stands.mode in
-    subst IsState (sym (ap (λ d. d.1) done.1)) (completed_state s name schema fates is stands newer none.0)
+    subst IsState (ap (λ (d : Reply × State). d.1) done.1) (completed_state s name schema fates is stands newer none.0)
 
 abbrev outcome_by : State → Kind → CommandOutcome
 outcome_by s k = elim k [

@@ -5,7 +5,6 @@ use Rattle.std.specs.Option.{option_or}
 use Rattle.std.proofs.lemmas.Bool.Decides.{nat_tests}
 use Rattle.sql_base.specs.Fit.{fits_columns, has_type, is_integer, row_fits}
 use Rattle.sql_base.specs.Outcome.{and_then, every}
-use Rattle.sql_base.specs.declared.faults.EvalFault.{EvalFault}
 use Rattle.sql_base.specs.declared.exprs.Arm.{Arm}
 use Rattle.sql_base.specs.declared.exprs.Expr.{Expr, out-Expr}
 use Rattle.sql_base.specs.declared.exprs.Expr.TheOpen.{Expr-F}
@@ -25,6 +24,8 @@ use Rattle.mig_lens.specs.declared.columns.Side.TheVariants.{Old, New}
 use Rattle.mig_lens.specs.Lens.{backward, forward}
 use Rattle.mig_lens.specs.Plan.{Table}
 use Rattle.mig_lens.proofs.MadeHalves.{all_true, and_then_ok, backward_fits, both, forward_fits}
+use Rattle.machine.proofs.Accepting.{either_none, made_row_ok, ok_same, without_ok}
+use Rattle.machine.proofs.StandingHalves.{half_stands, new_half_stands, same_key}
 use Rattle.machine.proofs.Pairs.{FoundStands, found_stands, new_alone, old_alone, pair_stands, some_same}
 use Rattle.machine.proofs.Placing.{put_rows_ascend, put_rows_length, put_rows_stand, replaced_stands, rows_stand, with_rows_count}
 use Rattle.machine.specs.declared.events.Reading.{Reading}
@@ -35,20 +36,12 @@ use Rattle.machine.specs.declared.states.Halves.{Halves}
 use Rattle.machine.specs.declared.states.Kept.{Kept}
 use Rattle.machine.specs.declared.states.State.{State}
 use Rattle.machine.specs.State.{Found, Shared, number_of, put_rows, row_count, rows_of, shape_of, shared, table_of, table_on, with_rows}
-use Rattle.machine.specs.Accept.{clashes, key_cause, sound, without, wrong}
+use Rattle.machine.specs.Accept.{clashes, key_cause, sound, wrong}
 use Rattle.machine.specs.Standing.{HalfStands, IsState, NewStands, RowStands, RowsStand, may_miss}
 use Rattle.machine.specs.Statement.{Outcome, are_names_of, find_table, insert, inserted_rows, integer, key_of, keys_of, literal_at, literal_for, literals, long_reply, made_row, max_reply, max_rows, new_halves, new_row, new_values, no_table, or_reply, picked_row, refused_row, select, select_rows, syntax, together, too_many_rows, typed, untyped, values_of, write, written}
 use Rattle.machine.specs.Step.{line_outcome}
 
 -- ---- outcomes
-
-pub ok_same : {T E : Type 0} (a b : T) → ◌≡◌ {A = Result T E} (Ok a) (Ok b) → a ≡ b
-ok_same a b h = cc
-
--- where there is a value, nothing was wrong
-pub without_ok : {T E : Type 0} (fault : Option E) (x y : T) → without fault x ≡ Ok y → (fault ≡ None) × (x ≡ y)
-without_ok None x y h = (refl, ok_same x y h)
-without_ok (Some fault) x y h = cc
 
 or_reply_ok : {T E : Type 0} (reply : E → Reply) (r : Result T E) (x : T) → or_reply reply r ≡ Ok x → r ≡ Ok x
 or_reply_ok reply (Ok y) x h = ap Ok (ok_same y x h)
@@ -57,10 +50,6 @@ or_reply_ok reply (Err fault) x h = cc
 ok_or_ok : {T E : Type 0} (o : Option T) (fault : E) (x : T) → ok_or o fault ≡ Ok x → o ≡ Some x
 ok_or_ok None fault x h = cc
 ok_or_ok (Some y) fault x h = ap Some (ok_same y x h)
-
-pub either_none : {T : Type 0} (a b : Option T) → option_or a b ≡ None → (a ≡ None) × (b ≡ None)
-either_none None b h = (refl, h)
-either_none (Some x) b h = cc
 
 -- ---- the values of literals
 
@@ -134,27 +123,9 @@ inserted_rows_fit shape names rows all key h = by_values (new_values shape names
 
 -- ---- new rows
 
--- The key is the integer at its place, and else 0.
-key_by_place : (values : List Value) (k : ℕ) → integer (slice_get values k) ≡ integer (Some (slice_index_or values k Null))
-key_by_place [] k = refl
-key_by_place (x ∷ values) zero = refl
-key_by_place (x ∷ values) (suc k) = key_by_place values k
-
-pub same_key : (shape : Shape) (half : List Value) (other : Shape) (other_half : List Value) → slice_index_or half shape.key Null ≡ slice_index_or other_half other.key Null → key_of shape half ≡ key_of other other_half
-same_key shape half other other_half h = key_by_place half shape.key ∙ ap (λ v. integer (Some v)) h ∙ sym (key_by_place other_half other.key)
-
--- a half of a side that has its table
-pub half_stands : (o : Option Table) (table : Table) (key : ℤ) (values : List Value) → o ≡ Some table → row_fits (shape_of table) values ≡ true → key_of (shape_of table) values ≡ key → HalfStands o key (Some values)
-half_stands o table key values e fit k = subst (λ o. HalfStands o key (Some values)) (sym e) (fit, k)
-
 -- a half of a side that hasn't
 no_half : (o : Option Table) (key : ℤ) → o ≡ None → HalfStands o key None
 no_half o key e = subst (λ o. HalfStands o key None) (sym e) tt
-
--- a new half that is there
-pub new_half_stands : (b : Bool) (o : Option Table) (table : Table) (key : ℤ) (values : List Value) → o ≡ Some table → row_fits (shape_of table) values ≡ true → key_of (shape_of table) values ≡ key → NewStands b o key (Some values)
-new_half_stands true o table key values e fit k = half_stands o table key values e fit k
-new_half_stands false o table key values e fit k = half_stands o table key values e fit k
 
 -- What new halves of a key are to be.
 record HalvesStand (s : State) (number : ℕ) (key : ℤ) (halves : Halves) : Type 0 where
@@ -213,10 +184,6 @@ halves_stand s found values halves stands f fit (Some pair) both_have New side h
       old = half_stands (table_on s Old number) pair.old key made.0 p.old made_fits.0 made_key;
       new = new_half_stands (may_miss (shared s number)) (table_on s New number) table key values on_side fit refl;
     })
-
-made_row_ok : (key : ℤ) (r : Result Halves EvalFault) (row : Kept) → made_row key r ≡ Ok row → (halves : Halves) × (r ≡ Ok halves) × (record { key = key; halves = halves } ≡ row)
-made_row_ok key (Ok halves) row h = (halves, refl, ok_same (record { key = key; halves = halves }) row h)
-made_row_ok key (Err fault) row h = cc
 
 pub new_row_stands : (s : State) (found : Found) (values : List Value) (row : Kept) → IsState s → FoundStands s found → row_fits (shape_of found.table) values ≡ true → new_row s found values ≡ Ok row → RowStands s (number_of found.table) row
 new_row_stands s found values row stands f fit h =

@@ -3,10 +3,11 @@ pub mod Choosing
 pub mod Completing
 pub mod Filling
 pub mod Inserting
+pub mod Joining
 pub mod Moving
-pub mod Pairing
 pub mod Pairs
 pub mod Placing
 pub mod Refusing
 pub mod Running
+pub mod StandingHalves
 pub mod Starting

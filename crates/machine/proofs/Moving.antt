@@ -1,14 +1,12 @@
 -- Tables and rows that stand, when they are carried into another state.
-use Rattle.std.proofs.Common.{◌≡◌, ◌∙◌, ℕ, ◌<◌, ℤ, List, [], ◌∷◌, Bool, true, false, ◌||◌, cond, Option, Some, None, length, map, ap, refl, arith}
-use Rattle.std.specs.Prelude.{◌==◌, find, is_some, nat_eq, sum_by}
+use Rattle.std.proofs.Common.{◌≡◌, ◌∙◌, ℕ, ◌<◌, List, [], ◌∷◌, Bool, true, false, ◌||◌, cond, Some, length, map, ap, refl, arith}
+use Rattle.std.specs.Prelude.{◌==◌, find, nat_eq, sum_by}
 use Rattle.std.specs.List.{AllByRecursion as Each, filter, list_any}
 use Rattle.std.proofs.lemmas.Bool.Decides.{nat_tests}
 use Rattle.std.proofs.lemmas.List.Sums.{sum_by-cons}
-use Rattle.sql_base.specs.declared.values.Value.{Value}
-use Rattle.mig_lens.specs.Plan.{Table}
 use Rattle.machine.specs.declared.states.Kept.{Kept}
 use Rattle.machine.specs.declared.states.State.{State}
-use Rattle.machine.specs.Standing.{Ascends, HalfStands, NewStands, NumbersAscend, RowStands, RowsStand, TablesStand}
+use Rattle.machine.specs.Standing.{Ascends, NumbersAscend, RowStands, RowsStand, TablesStand}
 
 -- the number of a table of a state and its rows
 abbrev pub Rows : Type 0
@@ -112,9 +110,3 @@ tables_moved s t h (table ∷ tables) stand = (stand.0, rows_moved table.1 stand
     rows_moved : (rows : List Kept) → RowsStand s table.0 rows → RowsStand t table.0 rows
     rows_moved [] stand = tt
     rows_moved (row ∷ rows) stand = (h table.0 row stand.0, rows_moved rows stand.1)
-
--- A new half that is there stands, whether or not it may be missing.
-pub new_half : (may : Bool) (table : Option Table) (key : ℤ) (half : Option (List Value)) → is_some half ≡ true → NewStands may table key half → HalfStands table key half
-new_half true table key None h stands = cc
-new_half true table key (Some values) h stands = stands
-new_half false table key half h stands = stands

@@ -38,9 +38,10 @@ use Rattle.machine.specs.State.{lens_among, number_of, row_count, shape_of, tabl
 use Rattle.machine.specs.Statement.{max_rows}
 use Rattle.machine.specs.Migrate.{active, begun, begun_half, begun_row, begun_rows, may_not_start, not_yet, numbers_of, planned, start, started, steps_left, taken, too_heavy, unplanned, unrun}
 use Rattle.machine.specs.Standing.{AllBelow, Ascends, HalfStands, IsState, NewStands, NumbersAscend, RowStands, RowsStand, VersionStands, may_miss}
-use Rattle.machine.proofs.Accepting.{guarded_ok, neither, without_ok}
-use Rattle.machine.proofs.Moving.{Carries, Rows, ascends_mapped, counts_kept, each, each_among, each_so, numbers_kept, rows_mapped, tables_mapped}
-use Rattle.machine.proofs.Pairing.{Pair, forward_stands, paired}
+use Rattle.machine.proofs.Accepting.{either_none, guarded_ok, without_ok}
+use Rattle.machine.proofs.Moving.{Carries, Rows, ascends_mapped, counts_kept, each, each_among, each_so, numbers, numbers_kept, rows_mapped, tables_mapped}
+use Rattle.machine.proofs.StandingHalves.{forward_stands}
+use Rattle.machine.proofs.Joining.{Pair, paired}
 
 -- ---- a migration that may be started
 
@@ -101,10 +102,10 @@ begun_row_stands s name plan number lens pair row stands =
     record {
       old = stands.old;
       new =
-          let half = subst (λ table. HalfStands table row.key row.halves.old) pair.in_old stands.old in
-          let here = begun_half_stands lens pair.old pair.new row.key row.halves.old (has_mark lens) refl pair.fitting pair.well_formed half in
+          let half = subst (λ table. HalfStands table row.key row.halves.old) pair.stands.old stands.old in
+          let here = begun_half_stands lens pair.old pair.new row.key row.halves.old (has_mark lens) refl pair.stands.fitting pair.stands.well_formed half in
           subst (λ found. NewStands (may_miss found) (table_on (started s name plan) New number) row.key (begun_half lens row.halves.old)) (sym pair.is_shared)
-          (subst (λ table. NewStands (has_mark lens) table row.key (begun_half lens row.halves.old)) (sym pair.in_new) here);
+          (subst (λ table. NewStands (has_mark lens) table row.key (begun_half lens row.halves.old)) (sym pair.stands.new) here);
     }
 
 -- ---- tables
@@ -242,13 +243,13 @@ started_stands s t (Read m) reply stands h =
     let step = and_then_ok (planned s m) (begun s m.name) (reply, t) allowed.1 in
     let plan = step.0 in
     let done = without_ok (too_heavy s plan) (Start m.name, started s m.name plan) (reply, t) step.2 in
-    let run = neither (unrun 0 m.operations) (option_or (steps_left s) (option_or (active s.mode) (taken s m.name))) allowed.0 in
-    let tidy = neither (steps_left s) (option_or (active s.mode) (taken s m.name)) run.1 in
-    let free = neither (active s.mode) (taken s m.name) tidy.1 in
+    let run = either_none (unrun 0 m.operations) (option_or (steps_left s) (option_or (active s.mode) (taken s m.name))) allowed.0 in
+    let tidy = either_none (steps_left s) (option_or (active s.mode) (taken s m.name)) run.1 in
+    let free = either_none (active s.mode) (taken s m.name) tidy.1 in
     let begins : Begins s m plan = record {
       added = all_added 0 m.operations run.0;
       no_steps = no_left s.kind tidy.0;
       named = not_taken (bytes_eq m.name s.version) (NameTaken m.name) free.1;
       is_plan = has_plan (plan_of s.schema s.next_table m) plan step.1;
     } in
-    subst IsState (sym (ap (λ d. d.1) done.1)) (started_state s m plan stands begins)
+    subst IsState (ap (λ (d : Reply × State). d.1) done.1) (started_state s m plan stands begins)
