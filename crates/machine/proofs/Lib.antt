@@ -1,2 +1,15 @@
+pub mod Accepting
+pub mod Choosing
 pub mod Clashing
+pub mod Completing
+pub mod Filling
+pub mod Inserting
+pub mod Joining
 pub mod Leasts
+pub mod Moving
+pub mod Pairs
+pub mod Placing
+pub mod Refusing
+pub mod Running
+pub mod StandingHalves
+pub mod Starting

@@ -1,7 +1,7 @@
 -- Which states there are: what holds of every state that a run reaches.
 --
 -- The definitions of the machine say what happens in any state at all. In such a state they say just what their words say: tables stand in order of creation, rows in ascending key, and no name means two things.
-use Rattle.std.specs.Prelude.{◌≡◌, ◌⊎◌, ◌≤◌, ◌<◌, ℕ, ℤ, Bool, true, false, List, [], ◌∷◌, Option, Some, None, map, nat_eq}
+use Rattle.std.specs.Prelude.{◌≡◌, ◌⊎◌, ◌≤◌, ◌<◌, ℕ, ℤ, Bool, true, false, List, [], ◌∷◌, Option, Some, None, is_some, nat_eq}
 use Rattle.std.specs.List.{list_all, list_any}
 use Rattle.std.specs.Option.{option_map_or}
 use Rattle.std.specs.Ordering.{int_cmp}
@@ -17,7 +17,7 @@ use Rattle.mig_lens.specs.declared.faults.Kind.TheVariants.{Nothing, Complete, R
 use Rattle.mig_lens.specs.declared.plans.Fate.{Fate}
 use Rattle.mig_lens.specs.Laws.{IsSchema, Joins}
 use Rattle.mig_lens.specs.Layout.{has_mark}
-use Rattle.mig_lens.specs.Plan.{Table}
+use Rattle.mig_lens.specs.Plan.{Table, table_numbered}
 use Rattle.machine.specs.declared.states.Kept.{Kept}
 use Rattle.machine.specs.declared.states.Mode.{Mode}
 use Rattle.machine.specs.declared.states.Mode.TheVariants.{Calm, Both}
@@ -79,9 +79,15 @@ abbrev pub AllBelow : ℕ → List Table → Type 0
 AllBelow next [] = Unit {0}
 AllBelow next (table ∷ tables) = (number_of table < next) × AllBelow next tables
 
+-- Each of these numbers is that of one of the version's tables.
+abbrev pub all_known : Schema → List ℕ → Bool
+all_known schema numbers = list_all (λ number. is_some (table_numbered schema number)) numbers
+
 pub record VersionStands (schema : Schema) (numbers : List ℕ) (next : ℕ) : Type 0 where
   pub schema_stands : IsSchema schema
   pub rows : has_all numbers schema ≡ true
+  -- So far no operation creates or drops a table.
+  pub known : all_known schema numbers ≡ true
   pub below : AllBelow next schema.tables
 
 -- The new version, beside the old one: another name, and lenses that join the two.

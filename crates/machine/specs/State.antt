@@ -1,7 +1,7 @@
 -- What a state holds, how a statement finds its table in it, and what a row shows.
 --
 -- A client sees the tables through a version. A version has a name and a schema: its tables, each with its name, its number and its shape. A table keeps its number in every version, while its name and its shape may differ. A statement carries a path: names of versions, each with public_ in front. While a migration is active two versions stand, the old side and the new side, and a row has a half for each version that has its table; in a table that both have, the new half may be missing until the row is filled. That both are usable meanwhile is pgroll's (its documentation, How pgroll works). While no migration is active one version stands, and it is the old side.
-use Rattle.std.specs.Prelude.{ℕ, ◌+◌, ℤ, List, [], ◌∷◌, ◌++◌, ◌==◌, false, Option, Some, None, codes, find, is_none, length, map, sum_by, unwrap_or, slice_index_or, if◌then◌else◌}
+use Rattle.std.specs.Prelude.{ℕ, ℤ, List, [], ◌∷◌, ◌++◌, ◌==◌, false, Option, Some, None, codes, find, is_none, length, map, sum_by, unwrap_or, slice_index_or, if◌then◌else◌}
 use Rattle.std.specs.List.{filter}
 use Rattle.std.specs.Option.{option_map, option_map_or, option_and_then, option_or}
 use Rattle.std.specs.Str.{bytes_eq}

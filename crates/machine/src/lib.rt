@@ -1,7 +1,7 @@
 //! The machine that the product is measured by: its states, what happens to them, and what it answers.
 #![tactic(auto)]
 
-mod accepting;
+mod acceptance;
 mod causes;
 mod events;
 pub mod laws;

@@ -2,7 +2,7 @@ use Rattle.std.proofs.Common.{◌≡◌, ◌≤◌, drop, length, map}
 use Rattle.std.specs.List.{filter}
 use Rattle.sql_eval.specs.Row.{least}
 use Rattle.machine.specs.Accept.{is_taken}
-use Rattle.machine.proofs.accepting.least_taken.Given as goal
+use Rattle.machine.proofs.acceptance.least_taken.Given as goal
 
 abbrev pub decreases-loop-at : goal.decreases-loop-at
 decreases-loop-at l = l.at

@@ -1,7 +1,7 @@
 use Rattle.std.proofs.Common.{◌≡◌, drop, map}
 use Rattle.sql_eval.specs.Eval.{eval}
 use Rattle.sql_eval.specs.Row.{check_fault}
-use Rattle.machine.proofs.accepting.check_fault.Given as goal
+use Rattle.machine.proofs.acceptance.check_fault.Given as goal
 
 abbrev pub invariant-loop-at : goal.invariant-loop-at
 invariant-loop-at l =

@@ -3,7 +3,7 @@ use Rattle.std.specs.List.{filter}
 use Rattle.sql_eval.specs.Row.{least}
 use Rattle.machine.specs.Accept.{has_clash, present}
 use Rattle.machine.specs.Statement.{keys_of}
-use Rattle.machine.proofs.accepting.least_clash.Given as goal
+use Rattle.machine.proofs.acceptance.least_clash.Given as goal
 
 abbrev pub decreases-loop-at : goal.decreases-loop-at
 decreases-loop-at l = l.at

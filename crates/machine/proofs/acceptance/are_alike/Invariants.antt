@@ -1,7 +1,7 @@
 use Rattle.std.proofs.Common.{◌≡◌, drop, map, slice_index_or}
 use Rattle.sql_base.specs.declared.values.Value.TheVariants.{Null}
 use Rattle.sql_eval.specs.Row.{all_alike}
-use Rattle.machine.proofs.accepting.are_alike.Given as goal
+use Rattle.machine.proofs.acceptance.are_alike.Given as goal
 
 abbrev pub invariant-loop-at : goal.invariant-loop-at
 invariant-loop-at l =
