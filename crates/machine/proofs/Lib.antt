@@ -8,5 +8,6 @@ pub mod Moving
 pub mod Pairs
 pub mod Placing
 pub mod Refusing
+pub mod Running
 pub mod StandingHalves
 pub mod Starting
