@@ -8,7 +8,6 @@ use Rattle.mig_lens.specs.Plan.{Table}
 use Rattle.machine.proofs.Completing.{completed_stands}
 use Rattle.machine.proofs.Filling.{filled_stands}
 use Rattle.machine.proofs.Inserting.{line_stands}
-use Rattle.machine.proofs.Pairs.{some_same}
 use Rattle.machine.proofs.Starting.{started_stands}
 use Rattle.machine.specs.declared.events.Entry.{Entry}
 use Rattle.machine.specs.declared.events.Event.TheVariants.{Said, Start, Fill, Complete}
@@ -58,7 +57,7 @@ beginning_schema : IsSchema beginning.schema
 beginning_schema = record { names = refl; numbers = refl; shapes = λ number shape e. by_test number shape (1 == number) e }
   where
     by_test : (number : ℕ) (shape : Shape) (b : Bool) → option_map {T = Table} (λ table. table.2) (if b then Some (codes "users", 1, users) else None) ≡ Some shape → WellFormed shape
-    by_test number shape true e = subst WellFormed (some_same users shape e) users_are_well_formed
+    by_test number shape true e = let is : users ≡ shape = cc in subst WellFormed is users_are_well_formed
     by_test number shape false e = cc
 
 beginning_version : VersionStands beginning.schema (numbers_of beginning) beginning.next_table
