@@ -38,7 +38,7 @@ use Rattle.machine.specs.declared.states.State.{State}
 use Rattle.machine.specs.State.{Found, Shared, number_of, put_rows, row_count, rows_of, shape_of, shared, table_of, table_on, with_rows}
 use Rattle.machine.specs.Accept.{clashes, key_cause, sound, wrong}
 use Rattle.machine.specs.Standing.{HalfStands, IsState, NewStands, RowStands, RowsStand, may_miss}
-use Rattle.machine.specs.Statement.{Outcome, are_names_of, find_table, insert, inserted_rows, integer, key_of, keys_of, literal_at, literal_for, literals, long_reply, made_row, max_reply, max_rows, new_halves, new_row, new_values, no_table, or_reply, picked_row, refused_row, select, select_rows, syntax, together, too_many_rows, typed, untyped, values_of, write, written}
+use Rattle.machine.specs.Statement.{Outcome, are_names_of, find_table, insert, inserted_rows, key_of, keys_of, literal_at, literal_for, literals, long_reply, made_row, max_reply, max_rows, new_halves, new_row, new_values, no_table, or_reply, picked_row, refused_row, select, select_rows, syntax, together, too_many_rows, typed, untyped, values_of, write, written}
 use Rattle.machine.specs.Step.{line_outcome}
 
 -- ---- outcomes
