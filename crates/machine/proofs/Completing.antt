@@ -21,7 +21,7 @@ use Rattle.machine.specs.declared.states.Kept.{Kept}
 use Rattle.machine.specs.declared.states.Mode.{Mode}
 use Rattle.machine.specs.declared.states.Mode.TheVariants.{Calm, Both}
 use Rattle.machine.specs.declared.states.State.{State}
-use Rattle.machine.specs.State.{Shared, name_of, newer, row_count, rows_of, shared, table_on}
+use Rattle.machine.specs.State.{Shared, name_of, row_count, rows_of, shared, table_on}
 use Rattle.machine.specs.Statement.{max_rows}
 use Rattle.machine.specs.Migrate.{CommandOutcome, complete, completed, completed_row, finish, invalid, may_not_complete, not_filled, not_filled_in, not_valid, numbers_of, tidied}
 use Rattle.machine.specs.Standing.{HalfStands, IsState, ModeStands, NewStands, NewerStands, NumbersAscend, RowStands, StepsStand, TablesStand, VersionStands, may_miss}

@@ -14,7 +14,7 @@ use Rattle.mig_lens.specs.Plan.{Table, table_numbered}
 use Rattle.machine.specs.declared.states.Mode.TheVariants.{Both}
 use Rattle.machine.specs.declared.states.State.{State}
 use Rattle.machine.proofs.Pairs.{PairStands}
-use Rattle.machine.specs.State.{Version, lens_among, lens_between, newer, number_of, shape_of, shared, table_on}
+use Rattle.machine.specs.State.{lens_among, lens_between, newer_schema, number_of, shape_of, shared, table_on}
 
 shape_found : (found : Option Table) (shape : Shape) → option_map (λ table. table.2) found ≡ Some shape → (table : Table) × (found ≡ Some table) × (shape ≡ table.2)
 shape_found None shape h = cc
@@ -30,18 +30,18 @@ number_found number (t ∷ ts) table h = by_test (number_found number ts table) 
 
 -- A table that is found by a number has it.
 pub number_on : (s : State) (number : ℕ) (table : Table) → table_on s New number ≡ Some table → number_of table ≡ number
-number_on s number table h = by_version (newer s.mode) h
+number_on s number table h = by_version (newer_schema s.mode) h
   where
-    by_version : (version : Option Version) → option_and_then (λ version. table_numbered version.schema number) version ≡ Some table → number_of table ≡ number
+    by_version : (version : Option Schema) → option_and_then (λ schema. table_numbered schema number) version ≡ Some table → number_of table ≡ number
     by_version None h = cc
-    by_version (Some version) h = number_found number version.schema.tables table h
+    by_version (Some schema) h = number_found number schema.tables table h
 
 both_have : (s : State) (number : ℕ) (old new : Table) (lens : Lens) → table_on s Old number ≡ Some old → table_on s New number ≡ Some new → lens_between s.mode number ≡ Some lens → shared s number ≡ Some (record { old = old; new = new; lens = lens })
 both_have s number old new lens a b c = rw (a, b, c)
 
 -- The new version's tables, while a migration is active.
 pub on_new : (s : State) (name : List ℕ) (schema : Schema) (fates : List (ℕ × Fate)) → s.mode ≡ Both name schema fates → (number : ℕ) → table_on s New number ≡ table_numbered schema number
-on_new s name schema fates is number = ap (λ m. option_and_then (λ version. table_numbered version.schema number) (newer m)) is
+on_new s name schema fates is number = ap (λ m. option_and_then (λ schema. table_numbered schema number) (newer_schema m)) is
 
 -- A table that both versions have, with the lens that joins the two.
 pub record Pair (s : State) (number : ℕ) (lens : Lens) : Type 0 where

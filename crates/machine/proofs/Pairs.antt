@@ -14,7 +14,7 @@ use Rattle.mig_lens.proofs.MadeHalves.{both}
 use Rattle.machine.specs.declared.states.Mode.{Mode}
 use Rattle.machine.specs.declared.states.Mode.TheVariants.{Calm, Both}
 use Rattle.machine.specs.declared.states.State.{State}
-use Rattle.machine.specs.State.{Found, Shared, Version, lens_between, current, name_of, newer, number_of, path_name, shape_of, shared, table_in, table_of, table_on, table_through, version_called, version_on}
+use Rattle.machine.specs.State.{Found, Shared, Version, lens_between, name_of, newer_called, newer_schema, number_of, path_name, schema_on, shape_of, shared, table_in, table_of, table_on, table_through, version_called}
 use Rattle.machine.proofs.Placing.{neither}
 use Rattle.machine.specs.Migrate.{numbers_of}
 use Rattle.machine.specs.Standing.{IsState, ModeStands}
@@ -35,7 +35,7 @@ pair_parts (Some lens) (Some old) (Some new) pair h = (ap (option_map (λ p. p.o
 
 -- The new version's table of a number, by the mode.
 abbrev newer_table : Mode → ℕ → Option Table
-newer_table mode number = option_and_then (λ version. table_numbered version.schema number) (newer mode)
+newer_table mode number = option_and_then (λ schema. table_numbered schema number) (newer_schema mode)
 
 -- What a state holds of a table that both versions have.
 pub record PairStands (s : State) (number : ℕ) (pair : Shared) : Type 0 where
@@ -146,24 +146,24 @@ found_by_number p (first ∷ tables) table h e =
 
 -- The version that a name of a path calls is one that stands.
 record Called (s : State) (version : Version) : Type 0 where
-  is : version_on s version.side ≡ Some version
+  is : schema_on s version.side ≡ Some version.schema
   schema_stands : IsSchema version.schema
 
-called_newer : (s : State) (mode : Mode) → s.mode ≡ mode → ModeStands s mode → (named : List ℕ) (version : Version) → option_and_then (λ version. if bytes_eq named (path_name version.name) then Some version else None) (newer mode) ≡ Some version → Called s version
+called_newer : (s : State) (mode : Mode) → s.mode ≡ mode → ModeStands s mode → (named : List ℕ) (version : Version) → newer_called mode named ≡ Some version → Called s version
 called_newer s Calm m h named version e = cc
 called_newer s (Both name schema fates) m h named version e = by_test (bytes_eq named (path_name name)) e
   where
-    by_test : (b : Bool) → (if b then Some (record { name = name; side = New; schema = schema }) else None) ≡ Some version → Called s version
+    by_test : (b : Bool) → (if b then Some (record { side = New; schema = schema }) else None) ≡ Some version → Called s version
     by_test true e =
-        let is = some_same (record { name = name; side = New; schema = schema }) version e in
-        subst (Called s) is (record { is = ap newer m; schema_stands = h.version.schema_stands })
+        let is = some_same (record { side = New; schema = schema }) version e in
+        subst (Called s) is (record { is = ap newer_schema m; schema_stands = h.version.schema_stands })
     by_test false e = cc
 
 called : (s : State) (named : List ℕ) (version : Version) → IsState s → version_called s named ≡ Some version → Called s version
 called s named version stands e = by_test (bytes_eq named (path_name s.version)) e
   where
-    by_test : (b : Bool) → (if b then Some (current s) else option_and_then (λ version. if bytes_eq named (path_name version.name) then Some version else None) (newer s.mode)) ≡ Some version → Called s version
-    by_test true e = subst (Called s) (some_same (current s) version e) (record { is = refl; schema_stands = stands.version.schema_stands })
+    by_test : (b : Bool) → (if b then Some (record { side = Old; schema = s.schema }) else newer_called s.mode named) ≡ Some version → Called s version
+    by_test true e = subst (Called s) (some_same (record { side = Old; schema = s.schema }) version e) (record { is = refl; schema_stands = stands.version.schema_stands })
     by_test false e = called_newer s s.mode refl stands.mode named version e
 
 in_version : (s : State) (name : List ℕ) (version : Version) (found : Found) → Called s version → table_in name version ≡ Some found → FoundStands s found
@@ -175,7 +175,7 @@ in_version s name version found c e = by_table (find {X = Table} (λ table. byte
         let numbered = found_by_number (λ table. bytes_eq (name_of table) name) version.schema.tables table c.schema_stands.numbers f in
         let is = some_same (record { side = version.side; table = table }) found e in
         subst (FoundStands s) is (record {
-          on_side = ap (option_and_then (λ version. table_numbered version.schema (number_of table))) c.is ∙ numbered;
+          on_side = ap (option_and_then (λ schema. table_numbered schema (number_of table))) c.is ∙ numbered;
           well_formed = c.schema_stands.shapes (number_of table) (shape_of table) (ap (option_map shape_of) numbered);
         })
 
