@@ -5,6 +5,7 @@ mod acceptance;
 mod causes;
 mod events;
 pub mod laws;
+mod rows;
 mod states;
 mod tables;
 
