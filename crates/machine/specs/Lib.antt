@@ -6,3 +6,4 @@ pub mod Standing
 pub mod State
 pub mod Statement
 pub mod Step
+pub mod Stops

@@ -5,9 +5,13 @@ mod acceptance;
 mod causes;
 mod events;
 pub mod laws;
+mod literals;
+mod replies;
 mod rows;
 mod states;
+mod stops;
 mod tables;
+mod writing;
 
 pub use events::{Asked, Entry, Event, Reading, Reply};
 pub use states::{Halves, Kept, Mode, State};
