@@ -1,5 +1,5 @@
 -- What the plain step's own views of a state stand for.
-use Rattle.std.specs.Prelude.{ℤ, List, Bool, false, not, ◌&&◌, Option, Some, None, if◌then◌else◌}
+use Rattle.std.specs.Prelude.{ℤ, List, Bool, false, not, ◌&&◌, Option, Some, None, Result, Ok, Err, if◌then◌else◌}
 use Rattle.std.specs.Int.{int_min}
 use Rattle.std.specs.Option.{option_map_or}
 use Rattle.std.specs.Ordering.{int_eq}
@@ -30,3 +30,8 @@ other_has unique side key values row =
 -- The least key, where this one counts or doesn't beside the least of others.
 abbrev pub with_least : ℤ → Bool → Option ℤ → Option ℤ
 with_least key counts least = if counts then Some (elim least [ None ↦ key | Some l ↦ int_min key l ]) else least
+
+-- The fault of an outcome, where it is one.
+abbrev pub fault_of : {T E : Type 0} → Result T E → Option E
+fault_of (Ok value) = None
+fault_of (Err fault) = Some fault

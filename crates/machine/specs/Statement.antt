@@ -205,14 +205,19 @@ abbrev pub find_table : State → List (List ℕ) → List ℕ → Result Found 
 find_table s path name = ok_or (table_of s path name) (no_table name)
 
 -- INSERT: the table is found, then the rows are read, then they are written.
+abbrev pub insert_into : State → List (List ℕ) → List (List Expr) → Found → Outcome
+insert_into s names rows found = and_then (inserted_rows (shape_of found.table) names rows) (write s found)
+
 abbrev pub insert : State → List (List ℕ) → List ℕ → List (List ℕ) → List (List Expr) → Outcome
-insert s path name names rows =
-    and_then (find_table s path name) (λ found. and_then (inserted_rows (shape_of found.table) names rows) (write s found))
+insert s path name names rows = and_then (find_table s path name) (insert_into s names rows)
 
 -- SELECT: the table is found, then the items are typed, then the rows are gone through in ascending key.
+abbrev pub select_from : State → Items → Found → Outcome
+select_from s items found =
+    and_then (or_reply untyped (typed (shape_of found.table) items)) (λ _. select_rows s found items (rows_of s (number_of found.table)))
+
 abbrev pub select : State → List (List ℕ) → List ℕ → Items → Outcome
-select s path name items =
-    and_then (find_table s path name) (λ found. and_then (or_reply untyped (typed (shape_of found.table) items)) (λ _. select_rows s found items (rows_of s (number_of found.table))))
+select s path name items = and_then (find_table s path name) (select_from s items)
 
 -- So far these are run: an INSERT, as above, a SELECT of all rows, and SET search_path, which is always accepted and changes nothing but the path of later lines. Every other statement is answered as a line that reads as none.
 abbrev pub answer : State → List (List ℕ) → Stmt → Outcome

@@ -8,6 +8,8 @@ pub mod laws;
 mod literals;
 mod replies;
 mod rows;
+mod selecting;
+mod statement;
 mod states;
 mod stops;
 mod tables;
