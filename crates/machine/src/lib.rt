@@ -3,8 +3,10 @@
 
 mod acceptance;
 mod causes;
+mod complete;
 mod events;
 pub mod laws;
+mod refusals;
 mod rows;
 mod states;
 mod tables;
