@@ -2,6 +2,7 @@ pub mod Accepting
 pub mod Choosing
 pub mod Clashing
 pub mod Completing
+pub mod Faultless
 pub mod Filling
 pub mod Inserting
 pub mod Joining

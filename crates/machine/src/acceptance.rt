@@ -204,8 +204,8 @@ fn is_taken(older: &[Kept], new: &[Kept], one: &Kept) -> bool
     has_key(one, older) || has_twice(one, new)
 }
 
-// The least key, where that of this row counts or doesn't beside the least of others.
-fn with_least(one: &Kept, counts: bool, least: Option<i64>) -> Option<i64>
+/// The least key, where that of this row counts or doesn't beside the least of others.
+pub fn with_least(one: &Kept, counts: bool, least: Option<i64>) -> Option<i64>
     ensures { result ≡ with_least one.now.key counts least }
 {
     match least {

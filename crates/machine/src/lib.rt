@@ -2,18 +2,24 @@
 #![tactic(auto)]
 
 mod acceptance;
+mod beginning;
 mod causes;
+mod complete;
 mod events;
 pub mod laws;
 mod literals;
+
+mod refusals;
 mod replies;
 mod rows;
 mod selecting;
+mod start;
 mod statement;
 mod states;
 mod stops;
 mod tables;
 mod writing;
 
+pub use causes::Cause;
 pub use events::{Asked, Entry, Event, Reading, Reply};
 pub use states::{Halves, Kept, Mode, State};

@@ -3,7 +3,7 @@ ghost use Rattle.std.specs.Prelude.{◌≡◌, IfOk, None, Some, map};
 ghost use Rattle.std.specs.List.{list_any};
 ghost use Rattle.std.specs.Option.{option_copied};
 ghost use Rattle.mig_lens.specs.Laws.{adds_column};
-ghost use Rattle.mig_lens.specs.Layout.{has_mark};
+ghost use Rattle.mig_lens.specs.Layout as layout;
 ghost use Rattle.machine.specs.Migrate as spec;
 ghost use Rattle.machine.specs.State as state;
 ghost use Rattle.machine.specs.Stops.{Answers};
@@ -25,7 +25,7 @@ use std::alloc::Global;
 fn not_yet(alloc: Global, at: u64) -> Result<Refusal, NoMemory>
     ensures { IfOk result (λ refusal. refusal ≡ spec.not_yet at) }
 {
-    let path = format!(alloc, "operations[{at}]")?;
+    let path = format!(in alloc; "operations[{at}]")?;
     Ok(Refusal::BadJson(Name::from_slice(alloc, path.as_bytes())?))
 }
 
@@ -120,7 +120,7 @@ fn planned(alloc: Global, s: &State, m: &Migration) -> Result<Plan, Stop<Refusal
 // ---- the rows that stand
 
 fn is_make(cell: &Cell) -> bool
-    ensures { result ≡ is_make cell.now }
+    ensures { result ≡ layout.is_make cell.now }
 {
     match cell {
         Cell::Make(_) => true,
@@ -130,7 +130,7 @@ fn is_make(cell: &Cell) -> bool
 
 // Whether a new column has to be made.
 fn is_marked(lens: &Lens) -> bool
-    ensures { result ≡ has_mark lens.now }
+    ensures { result ≡ layout.has_mark lens.now }
 {
     lens.new_cols.as_slice().iter().any(is_make)
 }
