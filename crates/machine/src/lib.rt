@@ -5,6 +5,7 @@ mod acceptance;
 mod causes;
 mod complete;
 mod events;
+mod fill;
 pub mod laws;
 mod refusals;
 mod rows;
