@@ -6,6 +6,7 @@ mod beginning;
 mod causes;
 mod complete;
 mod events;
+mod fill;
 pub mod laws;
 mod literals;
 
