@@ -2,19 +2,19 @@
 #![tactic(auto)]
 
 mod acceptance;
-mod beginning;
 mod causes;
 mod complete;
 mod events;
 mod fill;
 pub mod laws;
 mod literals;
-
+mod plain;
 mod refusals;
 mod replies;
 mod rows;
 mod selecting;
 mod start;
+mod start_state;
 mod statement;
 mod states;
 mod stops;
@@ -23,4 +23,6 @@ mod writing;
 
 pub use causes::Cause;
 pub use events::{Asked, Entry, Event, Reading, Reply};
+pub use plain::step;
+pub use start_state::beginning;
 pub use states::{Halves, Kept, Mode, State};

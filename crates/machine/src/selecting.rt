@@ -13,9 +13,7 @@ use crate::rows::shown;
 use crate::states::{Kept, State};
 use crate::stops::Stop;
 use crate::tables::{FoundTable, rows_of};
-use sql_base::{
-    Copying, EvalFault, Expr, Items, List, NoMemory, Shape, Ty, TypeFault, Value,
-};
+use sql_base::{Copying, EvalFault, Expr, Items, List, NoMemory, Shape, Ty, TypeFault, Value};
 use sql_eval::{eval, type_of};
 use std::alloc::Global;
 
@@ -82,9 +80,7 @@ fn picked_row(
     match picked(alloc, items, &found.table.2, shown(alloc, s, found, row)?) {
         Ok(values) => Ok(values),
         Err(EvalFault::NoMemory) => Err(Stop::NoMemory),
-        Err(fault) => Err(Stop::Because(refused_row(value_cause(
-            alloc, row.key, fault,
-        )?))),
+        Err(fault) => Err(Stop::Because(refused_row(value_cause(alloc, row.key, fault)?))),
     }
 }
 
@@ -132,11 +128,7 @@ fn select_rows(
 }
 
 // Why the items aren't accepted, where one has no type.
-fn untyped_items(
-    alloc: Global,
-    shape: &Shape,
-    items: &Items,
-) -> Result<Option<TypeFault>, NoMemory>
+fn untyped_items(alloc: Global, shape: &Shape, items: &Items) -> Result<Option<TypeFault>, NoMemory>
     ensures { IfOk result (λ fault. fault ≡ plain.fault_of (spec.typed shape.now items.now)) }
 {
     match typed(alloc, shape, items) {

@@ -268,12 +268,7 @@ fn started(alloc: Global, s: &State, name: &Name, plan: Plan) -> Result<State, N
     })
 }
 
-fn begun(
-    alloc: Global,
-    s: &State,
-    name: &Name,
-    plan: Plan,
-) -> Result<(Reply, State), Stop<Refusal>>
+fn begun(alloc: Global, s: &State, name: &Name, plan: Plan) -> Result<(Reply, State), Stop<Refusal>>
     ensures { Answers (spec.begun s.now name.now plan) result }
 {
     if let Some(refusal) = too_heavy(alloc, s, &plan)? {
