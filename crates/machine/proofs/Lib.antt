@@ -1,9 +1,13 @@
 pub mod Accepting
 pub mod Choosing
+pub mod Clashes
 pub mod Completing
 pub mod Filling
 pub mod Inserting
 pub mod Joining
+pub mod KeepingLaws
+pub mod LawfulRows
+pub mod LawfulTables
 pub mod Moving
 pub mod Pairs
 pub mod Placing

@@ -39,7 +39,7 @@ use Rattle.machine.specs.Statement.{max_rows}
 use Rattle.machine.specs.Migrate.{active, begun, begun_half, begun_row, begun_rows, may_not_start, not_yet, numbers_of, planned, start, started, steps_left, taken, too_heavy, unplanned, unrun}
 use Rattle.machine.specs.Standing.{AllBelow, Ascends, HalfStands, IsState, NewStands, NumbersAscend, RowStands, RowsStand, VersionStands, may_miss}
 use Rattle.machine.proofs.Accepting.{either_none, guarded_ok, without_ok}
-use Rattle.machine.proofs.Moving.{Carries, Rows, ascends_mapped, counts_kept, each, each_among, each_so, numbers, numbers_kept, rows_mapped, tables_mapped}
+use Rattle.machine.proofs.Moving.{Carries, Rows, ascends_mapped, counts_kept, each, each_among, each_so, numbers_kept, rows_mapped, tables_mapped}
 use Rattle.machine.proofs.StandingHalves.{forward_stands}
 use Rattle.machine.proofs.Joining.{Pair, paired}
 
