@@ -50,7 +50,7 @@ missing_apart s number stands = by_pair (shared s number)
 
 -- ---- the first keys are a choice
 
-eq_turns : (x y : ℤ) → int_eq x y ≡ int_eq y x
+pub eq_turns : (x y : ℤ) → int_eq x y ≡ int_eq y x
 eq_turns x y = ap is_eq (int_cmp_total.antisymm x y) ∙ turned (int_cmp y x)
   where
     turned : (o : Ordering) → is_eq (ordering_reverse o) ≡ is_eq o
@@ -58,7 +58,7 @@ eq_turns x y = ap is_eq (int_cmp_total.antisymm x y) ∙ turned (int_cmp y x)
     turned Equal = refl
     turned Greater = refl
 
-eq_self : (x : ℤ) → int_eq x x ≡ true
+pub eq_self : (x : ℤ) → int_eq x x ≡ true
 eq_self x = ap is_eq (tied_itself int_cmp_total x)
 
 none_chosen : (keys : List ℤ) → filter (λ key. false) keys ≡ []

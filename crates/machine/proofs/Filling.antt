@@ -121,7 +121,7 @@ filled_state s number pair q p new stands h =
     let same_length : length (put_rows new rows) ≡ length rows = sym (length-map (put_rows new rows) (λ row. row.key)) ∙ ap length same_keys ∙ length-map rows (λ row. row.key) in
     refilled_stands s number (put_rows new rows) stands (put_rows_ascend new rows stand.0) (put_rows_stand s number new rows filled.0 stand.1) (le_of_eq same_length)
 
-of_cause_ok : {T : Type 0} (name : List ℕ) (r : Result T Cause) (value : T) → of_cause name r ≡ Ok value → r ≡ Ok value
+pub of_cause_ok : {T : Type 0} (name : List ℕ) (r : Result T Cause) (value : T) → of_cause name r ≡ Ok value → r ≡ Ok value
 of_cause_ok name (Ok found) value h = cc
 of_cause_ok name (Err cause) value h = cc
 

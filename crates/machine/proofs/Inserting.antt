@@ -43,7 +43,7 @@ use Rattle.machine.specs.Step.{line_outcome}
 
 -- ---- outcomes
 
-or_reply_ok : {T E : Type 0} (reply : E → Reply) (r : Result T E) (x : T) → or_reply reply r ≡ Ok x → r ≡ Ok x
+pub or_reply_ok : {T E : Type 0} (reply : E → Reply) (r : Result T E) (x : T) → or_reply reply r ≡ Ok x → r ≡ Ok x
 or_reply_ok reply (Ok y) x h = ap Ok (ok_same y x h)
 or_reply_ok reply (Err fault) x h = cc
 
@@ -251,7 +251,7 @@ select_rows_stays s found items rows accepted h =
     by_test all true h = cc
     by_test all false h = ap (λ (a : Reply × State). a.1) (ok_same (reply_of.Select all, s) accepted h)
 
-select_stays : (s : State) (path : List (List ℕ)) (name : List ℕ) (items : Items) (accepted : Reply × State) → select s path name items ≡ Ok accepted → s ≡ accepted.1
+pub select_stays : (s : State) (path : List (List ℕ)) (name : List ℕ) (items : Items) (accepted : Reply × State) → select s path name items ≡ Ok accepted → s ≡ accepted.1
 select_stays s path name items accepted h =
     let find = and_then_ok (find_table s path name) (λ found. and_then (or_reply untyped (typed (shape_of found.table) items)) (λ _. select_rows s found items (rows_of s (number_of found.table)))) accepted h in
     let found = find.0 in

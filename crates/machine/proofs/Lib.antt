@@ -1,11 +1,15 @@
 pub mod Accepting
 pub mod Choosing
+pub mod Clashes
 pub mod Clashing
 pub mod Completing
 pub mod Faultless
 pub mod Filling
 pub mod Inserting
 pub mod Joining
+pub mod KeepingLaws
+pub mod LawfulRows
+pub mod LawfulTables
 pub mod Leasts
 pub mod Moving
 pub mod Pairs

@@ -8,6 +8,7 @@ use Rattle.machine.specs.declared.events.Reply.TheVariants.{Insert, Select, Set,
 use Rattle.machine.specs.declared.states.Kept.{Kept}
 use Rattle.machine.specs.declared.states.State.{State}
 use Rattle.machine.specs.State.{Found, beginning, shown}
+use Rattle.machine.specs.Lawful.{IsLawful}
 use Rattle.machine.specs.Standing.{IsState}
 use Rattle.machine.specs.Step.{IsPlainStep, Run, Step}
 
@@ -42,3 +43,11 @@ OldShowsOldHalves = (s t : State) (found : Found) (row other : Kept) → found.s
 -- In such a state the plain step is one of the machine's steps.
 abbrev pub PlainStepsAreSteps : Type 0
 PlainStepsAreSteps = (s : State) (event : Event) (r : State × Reply) → IsState s → IsPlainStep s event r → Step s event r.1 r.0
+
+-- A step from a lawful state that stands leads to a lawful one: constraints are never broken, and no half is too heavy.
+abbrev pub StepsKeepLaws : Type 0
+StepsKeepLaws = (s : State) (event : Event) (reply : Reply) (t : State) → Step s event reply t → IsState s → IsLawful s → IsLawful t
+
+-- So every run does that begins as the program does.
+abbrev pub RunsReachLawful : Type 0
+RunsReachLawful = (number : ℕ) (history : List Entry) (t : State) → Run number beginning history t → IsLawful t
