@@ -5,7 +5,6 @@ pub mod Completing
 pub mod Filling
 pub mod Inserting
 pub mod Joining
-pub mod Leasts
 pub mod Moving
 pub mod Pairs
 pub mod Placing
