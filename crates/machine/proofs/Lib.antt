@@ -10,7 +10,6 @@ pub mod Joining
 pub mod KeepingLaws
 pub mod LawfulRows
 pub mod LawfulTables
-pub mod Leasts
 pub mod Moving
 pub mod Pairs
 pub mod Placing
