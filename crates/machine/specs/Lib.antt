@@ -1,0 +1,10 @@
+pub mod Accept
+pub mod Lawful
+pub mod Laws
+pub mod Migrate
+pub mod Plain
+pub mod Standing
+pub mod State
+pub mod Statement
+pub mod Step
+pub mod Stops

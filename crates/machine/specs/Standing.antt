@@ -1,0 +1,120 @@
+-- Which states there are: what holds of every state that a run reaches.
+--
+-- The definitions of the machine say what happens in any state at all. In such a state they say just what their words say: tables stand in order of creation, rows in ascending key, and no name means two things.
+use Rattle.std.specs.Prelude.{◌≡◌, ◌⊎◌, ◌≤◌, ◌<◌, ℕ, ℤ, Bool, true, false, List, [], ◌∷◌, Option, Some, None, is_some, nat_eq}
+use Rattle.std.specs.List.{list_all, list_any}
+use Rattle.std.specs.Option.{option_map_or}
+use Rattle.std.specs.Ordering.{int_cmp}
+use Rattle.std.specs.Str.{bytes_eq}
+use Rattle.std.specs.declared.cmp.Ordering.TheVariants.{Less}
+use Rattle.sql_base.specs.Fit.{row_fits}
+use Rattle.sql_base.specs.declared.shapes.Schema.{Schema}
+use Rattle.sql_base.specs.declared.values.Value.{Value}
+use Rattle.mig_lens.specs.declared.columns.Lens.{Lens}
+use Rattle.mig_lens.specs.declared.columns.Side.TheVariants.{Old, New}
+use Rattle.mig_lens.specs.declared.faults.Kind.{Kind}
+use Rattle.mig_lens.specs.declared.faults.Kind.TheVariants.{Nothing, Complete, Rollback}
+use Rattle.mig_lens.specs.declared.plans.Fate.{Fate}
+use Rattle.mig_lens.specs.Laws.{IsSchema, Joins}
+use Rattle.mig_lens.specs.Layout.{has_mark}
+use Rattle.mig_lens.specs.Plan.{Table, table_numbered}
+use Rattle.machine.specs.declared.states.Kept.{Kept}
+use Rattle.machine.specs.declared.states.Mode.{Mode}
+use Rattle.machine.specs.declared.states.Mode.TheVariants.{Calm, Both}
+use Rattle.machine.specs.declared.states.State.{State}
+use Rattle.machine.specs.State.{Shared, lens_among, number_of, row_count, shape_of, shared, table_on}
+use Rattle.machine.specs.Statement.{key_of, max_rows}
+use Rattle.machine.specs.Migrate.{numbers_of}
+
+-- ---- rows
+
+-- The keys of these rows ascend strictly.
+abbrev pub Ascends : List Kept → Type 0
+Ascends [] = Unit {0}
+Ascends (row ∷ []) = Unit {0}
+Ascends (row ∷ next ∷ rows) = (int_cmp row.key next.key ≡ Less) × Ascends (next ∷ rows)
+
+-- A half is there exactly where its side has the table; it fits the shape, and has the row's key in the key's place.
+abbrev pub HalfStands : Option Table → ℤ → Option (List Value) → Type 0
+HalfStands None key None = Unit {0}
+HalfStands None key (Some values) = ⊥
+HalfStands (Some table) key None = ⊥
+HalfStands (Some table) key (Some values) = (row_fits (shape_of table) values ≡ true) × (key_of (shape_of table) values ≡ key)
+
+-- The new half may be missing in a table that both versions have and of which a new column has to be made.
+abbrev pub may_miss : Option Shared → Bool
+may_miss pair = option_map_or (λ pair. has_mark pair.lens) pair false
+
+abbrev pub NewStands : Bool → Option Table → ℤ → Option (List Value) → Type 0
+NewStands true table key None = Unit {0}
+NewStands true table key (Some values) = HalfStands table key (Some values)
+NewStands false table key half = HalfStands table key half
+
+pub record RowStands (s : State) (number : ℕ) (row : Kept) : Type 0 where
+  pub old : HalfStands (table_on s Old number) row.key row.halves.old
+  pub new : NewStands (may_miss (shared s number)) (table_on s New number) row.key row.halves.new
+
+abbrev pub RowsStand : State → ℕ → List Kept → Type 0
+RowsStand s number [] = Unit {0}
+RowsStand s number (row ∷ rows) = RowStands s number row × RowsStand s number rows
+
+-- The rows of each of these tables.
+abbrev pub TablesStand : State → List (ℕ × List Kept) → Type 0
+TablesStand s [] = Unit {0}
+TablesStand s (table ∷ tables) = Ascends table.1 × RowsStand s table.0 table.1 × TablesStand s tables
+
+-- ---- versions
+
+abbrev pub NumbersAscend : List ℕ → Type 0
+NumbersAscend [] = Unit {0}
+NumbersAscend (number ∷ []) = Unit {0}
+NumbersAscend (number ∷ next ∷ numbers) = (number < next) × NumbersAscend (next ∷ numbers)
+
+-- Each of the version's tables has its rows among those of these numbers.
+abbrev pub has_all : List ℕ → Schema → Bool
+has_all numbers schema = list_all (λ table. list_any (nat_eq (number_of table)) numbers) schema.tables
+
+-- The numbers of its tables are below the next one.
+abbrev pub AllBelow : ℕ → List Table → Type 0
+AllBelow next [] = Unit {0}
+AllBelow next (table ∷ tables) = (number_of table < next) × AllBelow next tables
+
+-- Each of these numbers is that of one of the version's tables.
+abbrev pub all_known : Schema → List ℕ → Bool
+all_known schema numbers = list_all (λ number. is_some (table_numbered schema number)) numbers
+
+pub record VersionStands (schema : Schema) (numbers : List ℕ) (next : ℕ) : Type 0 where
+  pub schema_stands : IsSchema schema
+  pub rows : has_all numbers schema ≡ true
+  -- So far no operation creates or drops a table.
+  pub known : all_known schema numbers ≡ true
+  pub below : AllBelow next schema.tables
+
+-- The new version, beside the old one: another name, and lenses that join the two.
+pub record NewerStands (s : State) (name : List ℕ) (schema : Schema) (fates : List (ℕ × Fate)) : Type 0 where
+  pub version : VersionStands schema (numbers_of s) s.next_table
+  pub named : bytes_eq name s.version ≡ false
+  pub no_steps : s.kind ≡ Nothing
+  pub joined : (number : ℕ) (lens : Lens) → lens_among fates number ≡ Some lens → Joins lens number s.schema schema
+  -- So far no operation creates or drops a table.
+  pub kept : (number : ℕ) → list_any (nat_eq number) (numbers_of s) ≡ true → (lens : Lens) × (lens_among fates number ≡ Some lens)
+
+abbrev pub ModeStands : State → Mode → Type 0
+ModeStands s Calm = Unit {0}
+ModeStands s (Both name schema fates) = NewerStands s name schema fates
+
+-- Two steps or one are left of completing, one of rolling back.
+abbrev pub StepsStand : Kind → ℕ → Type 0
+StepsStand Nothing left = left ≡ 0
+StepsStand Complete left = (left ≡ 2) ⊎ (left ≡ 1)
+StepsStand Rollback left = left ≡ 1
+
+-- ---- the whole state
+
+pub record IsState (s : State) : Type 0 where
+  pub steps : StepsStand s.kind s.left
+  pub version : VersionStands s.schema (numbers_of s) s.next_table
+  pub mode : ModeStands s s.mode
+  pub numbers : NumbersAscend (numbers_of s)
+  pub tables : TablesStand s s.tables
+  pub few : row_count s ≤ max_rows

@@ -1,0 +1,141 @@
+//! Why rows aren't accepted.
+ghost use Rattle.std.specs.Prelude.{◌≡◌, IfOk, Some};
+ghost use Rattle.sql_base.specs.declared.faults.RowFault.TheVariants as RowFault;
+ghost use Rattle.machine.specs.Accept as spec;
+
+use crate::tables::Table;
+use sql_base::{Code, EvalFault, Name, NoMemory, RowFault, Shape};
+use std::alloc::Global;
+
+/// Why something isn't accepted: a code, what it is about where there is something to name, and the key of the row
+/// where it was found.
+#[derive(Debug, Drop)]
+pub struct Cause {
+    /// The code.
+    pub code: Code,
+    /// The constraint or the limit.
+    pub name: Option<Name>,
+    /// The row's key.
+    pub key: i64,
+}
+
+fn fault_code(fault: EvalFault) -> Code
+    ensures { result ≡ spec.fault_code fault }
+{
+    match fault {
+        EvalFault::DivZero => Code::C22012,
+        EvalFault::Range => Code::C22003,
+        EvalFault::BadText => Code::C22P02,
+        EvalFault::TooLong => Code::C54000,
+        EvalFault::NoMemory => Code::C53200,
+    }
+}
+
+// A name, of these bytes.
+fn named(alloc: Global, bytes: &[u8]) -> Result<Option<Name>, NoMemory>
+    ensures { IfOk result (λ name. name ≡ Some bytes.now) }
+{
+    Ok(Some(Name::from_slice(alloc, bytes)?))
+}
+
+fn fault_name(alloc: Global, fault: EvalFault) -> Result<Option<Name>, NoMemory>
+    ensures { IfOk result (λ name. name ≡ spec.fault_name fault) }
+{
+    match fault {
+        EvalFault::TooLong => named(alloc, b"text"),
+        _ => Ok(None),
+    }
+}
+
+/// An expression has no value over the row of this key.
+pub fn value_cause(alloc: Global, key: i64, fault: EvalFault) -> Result<Cause, NoMemory>
+    ensures { IfOk result (λ cause. cause ≡ spec.value_cause key fault) }
+{
+    Ok(Cause {
+        code: fault_code(fault),
+        name: fault_name(alloc, fault)?,
+        key,
+    })
+}
+
+// The name of the column at this place.
+fn column_name(shape: &Shape, at: usize) -> &[u8]
+    ensures { result.now ≡ spec.column_name shape.now at }
+{
+    match shape.columns.as_slice().get(at) {
+        Some(column) => column.name.as_slice(),
+        None => b"",
+    }
+}
+
+// The name of the column's NOT NULL constraint.
+fn not_null_name(alloc: Global, table: &Table, at: usize) -> Result<Name, NoMemory>
+    ensures { IfOk result (λ name. name ≡ spec.not_null_name table.now at) }
+{
+    let mut name = Vec::from_slice(alloc, table.0.as_slice())?;
+    name.extend_from_slice(b"_")?;
+    name.extend_from_slice(column_name(&table.2, at))?;
+    name.extend_from_slice(b"_not_null")?;
+    Name::from_slice(alloc, name.as_slice())
+}
+
+/// NULL stands in the NOT NULL column at this place.
+pub fn null_cause(alloc: Global, table: &Table, key: i64, at: usize) -> Result<Cause, NoMemory>
+    ensures { IfOk result (λ cause. cause ≡ spec.row_cause table.now key (RowFault.Null at)) }
+{
+    Ok(Cause {
+        code: Code::C23502,
+        name: Some(not_null_name(alloc, table, at)?),
+        key,
+    })
+}
+
+/// A constraint or a limit isn't met by the row of this key.
+pub fn constraint_cause(alloc: Global, code: Code, name: &[u8], key: i64) -> Result<Cause, NoMemory>
+    ensures { IfOk result (λ cause. cause ≡ spec.constraint_cause code name.now key) }
+{
+    Ok(Cause {
+        code,
+        name: named(alloc, name)?,
+        key,
+    })
+}
+
+/// A half of the row of this key is too heavy.
+pub fn heavy_cause(alloc: Global, key: i64) -> Result<Cause, NoMemory>
+    ensures { IfOk result (λ cause. cause ≡ spec.heavy_cause key) }
+{
+    constraint_cause(alloc, Code::C54000, b"row", key)
+}
+
+/// Another row of the table has this key.
+pub fn taken_key(alloc: Global, table: &Table, key: i64) -> Result<Cause, NoMemory>
+    ensures { IfOk result (λ cause. cause ≡ spec.taken_key table.now key) }
+{
+    let mut constraint = Vec::from_slice(alloc, table.0.as_slice())?;
+    constraint.extend_from_slice(b"_pkey")?;
+    constraint_cause(alloc, Code::C23505, constraint.as_slice(), key)
+}
+
+// The name of the check at this place.
+fn check_name(shape: &Shape, at: u64) -> &[u8]
+    ensures { result.now ≡ spec.check_name shape.now at }
+{
+    match shape.checks.as_slice().get(at as usize) {
+        Some(check) => check.name.as_slice(),
+        None => b"",
+    }
+}
+
+/// A fault of a row of this table, with the constraint's name.
+pub fn row_cause(alloc: Global, table: &Table, key: i64, fault: RowFault) -> Result<Cause, NoMemory>
+    ensures { IfOk result (λ cause. cause ≡ spec.row_cause table.now key fault) }
+{
+    match fault {
+        RowFault::Null(at) => null_cause(alloc, table, key, at as usize),
+        RowFault::Check(at) => constraint_cause(alloc, Code::C23514, check_name(&table.2, at), key),
+        RowFault::Eval(at, fault) => {
+            constraint_cause(alloc, fault_code(fault), check_name(&table.2, at), key)
+        }
+    }
+}

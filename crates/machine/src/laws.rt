@@ -1,0 +1,33 @@
+//! Laws of the machine, over its definitions alone. Each is the contract of a function that does nothing.
+ghost use Rattle.machine.specs.Laws.{StepsKeepStates, RunsReachStates, RefusalsChangeNothing, OldShowsOldHalves, PlainStepsAreSteps, StepsKeepLaws, RunsReachLawful};
+
+/// A step from a state that stands leads to one, and so does every run that begins as the program does: rows have
+/// their halves, which fit their shapes and have the row's key; rows ascend by key; schemas are well formed; the
+/// lenses join the two versions.
+pub fn states_stand()
+    ensures steps { StepsKeepStates }
+    ensures runs { RunsReachStates }
+{}
+
+/// An event that is refused changes nothing.
+pub fn refusals_change_nothing()
+    ensures { RefusalsChangeNothing }
+{}
+
+/// What a row shows through the old version never depends on its new half.
+pub fn the_old_version_shows_old_halves()
+    ensures { OldShowsOldHalves }
+{}
+
+/// In a state that stands the plain step is one of the machine's steps.
+pub fn plain_steps_are_steps()
+    ensures { PlainStepsAreSteps }
+{}
+
+/// No step breaks a constraint: while one version stands no row has a fault or has the same values as another in the
+/// columns of a unique constraint; while a migration is active no old half does, nor any new half of a table of which
+/// a new column has to be made. No half weighs more than its limit.
+pub fn states_stay_lawful()
+    ensures steps { StepsKeepLaws }
+    ensures runs { RunsReachLawful }
+{}

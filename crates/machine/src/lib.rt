@@ -1,0 +1,28 @@
+//! The machine that the product is measured by: its states, what happens to them, and what it answers.
+#![tactic(auto)]
+
+mod acceptance;
+mod causes;
+mod complete;
+mod events;
+mod fill;
+pub mod laws;
+mod literals;
+mod plain;
+mod refusals;
+mod replies;
+mod rows;
+mod selecting;
+mod start;
+mod start_state;
+mod statement;
+mod states;
+mod stops;
+mod tables;
+mod writing;
+
+pub use causes::Cause;
+pub use events::{Asked, Entry, Event, Reading, Reply};
+pub use plain::step;
+pub use start_state::beginning;
+pub use states::{Halves, Kept, Mode, State};
