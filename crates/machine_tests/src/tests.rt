@@ -11,6 +11,7 @@ use std::alloc::Global;
 use std::test::Fail;
 
 /// A run in the making: the state, the path of statements, and what was answered.
+#[derive(Drop)]
 struct Lane {
     state: State,
     path: List<Name>,

@@ -66,10 +66,13 @@ fn push_error(
     push(out, "ERROR ")?;
     push(out, code_word(code))?;
     push(out, " ")?;
-    push(out, match name {
-        Some(name) => word(name),
-        None => "-",
-    })?;
+    push(
+        out,
+        match name {
+            Some(name) => word(name),
+            None => "-",
+        },
+    )?;
     match key {
         Some(key) => {
             push(out, " ")?;
@@ -127,7 +130,10 @@ fn push_fill(
 ) -> Result<(), NoMemory> {
     push(out, "FILL ")?;
     push(out, word(table))?;
-    push(out, format!(in alloc; " {count} {first} {last}\n")?.as_str())
+    push(
+        out,
+        format!(in alloc; " {count} {first} {last}\n")?.as_str(),
+    )
 }
 
 /// The lines of a reply, without its number and actor. (A SELECT's number of rows is left out.)

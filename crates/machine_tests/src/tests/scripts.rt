@@ -1,6 +1,7 @@
 //! Worked examples: the lines of one lane, and what they are answered.
 
 /// A line of a script.
+#[derive(Drop)]
 pub enum Line<'a> {
     Start(&'a str),
     Batch(u32),
