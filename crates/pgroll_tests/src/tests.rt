@@ -1,1 +1,4 @@
 mod calls;
+mod engine;
+mod statements;
+mod wanting;

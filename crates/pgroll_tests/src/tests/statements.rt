@@ -1,0 +1,148 @@
+// Statements of a test, what they have to come to, and whether a reply is that.
+use roll_core::Core;
+use roll_core::model::Reply;
+use sql_base::{Code, Expr, List, Name, NoMemory, SqlText, Stmt, Value};
+use std::alloc::Global;
+
+pub const VERSION: &str = "public_01_users";
+
+/// What is said to the engine.
+#[derive(Clone, Copy)]
+pub enum Said {
+    /// A line, through a path of versions.
+    Line(&'static [&'static str], &'static str),
+    /// An INSERT into a table, with these names of columns, of the row with the key 7 and a text of so many bytes.
+    Row(&'static str, &'static [&'static str], usize),
+}
+
+/// What it has to come to.
+#[derive(Clone, Copy)]
+pub enum Wanted {
+    /// One row is written.
+    Written,
+    /// These rows are shown.
+    Shown(&'static [(i64, &'static str)]),
+    /// It is refused, with this code, about this, at the row of this key.
+    Refused(Code, Option<&'static str>, Option<i64>),
+    /// Memory is wanting.
+    NoMemory,
+}
+
+/// A path of these versions, or another list of names.
+pub fn names_of(alloc: Global, words: &[&str]) -> Result<Vec<Name>, NoMemory> {
+    let mut names = Vec::new(alloc);
+    for word in words {
+        names.push(Name::from_slice(alloc, word.as_bytes())?)?;
+    }
+    Ok(names)
+}
+
+// The reply to a line, or nothing where it reads as no statement.
+fn line(
+    alloc: Global,
+    core: &mut Core,
+    path: &[&str],
+    line: &str,
+) -> Result<Option<Reply>, NoMemory> {
+    let path = names_of(alloc, path)?;
+    match &sql_small::read(alloc, line.as_bytes())? {
+        Some(stmt) => Ok(Some(core.statement(&path, stmt))),
+        None => Ok(None),
+    }
+}
+
+// A text of so many bytes.
+fn text(alloc: Global, length: usize) -> Result<Value, NoMemory> {
+    match SqlText::read(alloc, &vec![in alloc; b'x'; length]?)? {
+        Some(text) => Ok(Value::Text(text)),
+        None => Ok(Value::Null),
+    }
+}
+
+// The values of a row, as they are written.
+fn values(alloc: Global, length: usize) -> Result<List<Expr>, NoMemory> {
+    let text = text(alloc, length)?;
+    let mut values = List::new(alloc);
+    values.push(Expr::Lit(Value::Int(7)))?;
+    values.push(Expr::Lit(text))?;
+    Ok(values)
+}
+
+fn insert(alloc: Global, table: &str, columns: &[&str], length: usize) -> Result<Stmt, NoMemory> {
+    let table = Name::from_slice(alloc, table.as_bytes())?;
+    let columns = List::from_vec(names_of(alloc, columns)?);
+    let mut rows = List::new(alloc);
+    rows.push(values(alloc, length)?)?;
+    Ok(Stmt::Insert(table, columns, rows))
+}
+
+// The reply to an INSERT of a row.
+fn row(
+    alloc: Global,
+    core: &mut Core,
+    table: &str,
+    columns: &[&str],
+    length: usize,
+) -> Result<Option<Reply>, NoMemory> {
+    let path = names_of(alloc, &[VERSION])?;
+    let stmt = insert(alloc, table, columns, length)?;
+    Ok(Some(core.statement(&path, &stmt)))
+}
+
+/// The reply to what is said, or nothing where it reads as no statement.
+pub fn reply_to(alloc: Global, core: &mut Core, said: Said) -> Result<Option<Reply>, NoMemory> {
+    match said {
+        Said::Line(path, text) => line(alloc, core, path, text),
+        Said::Row(table, columns, length) => row(alloc, core, table, columns, length),
+    }
+}
+
+fn is_about(name: &Option<Name>, about: Option<&str>) -> bool {
+    match (name, about) {
+        (Some(name), Some(about)) => name.as_slice() == about.as_bytes(),
+        (None, None) => true,
+        _ => false,
+    }
+}
+
+fn is_row(row: &[Value], wanted: (i64, &str)) -> bool {
+    match row {
+        [Value::Int(key), Value::Text(text)] => *key == wanted.0 && text.as_str() == wanted.1,
+        _ => false,
+    }
+}
+
+fn are_rows(rows: &[List<Value>], wanted: &[(i64, &str)]) -> bool {
+    if rows.len() != wanted.len() {
+        return false;
+    }
+    for (at, row) in rows.iter().enumerate() {
+        if !is_row(row.as_slice(), wanted[at]) {
+            return false;
+        }
+    }
+    true
+}
+
+/// Whether a reply is what is wanted.
+pub fn is_wanted(reply: &Reply, wanted: Wanted) -> bool {
+    match (reply, wanted) {
+        (Reply::Insert(count), Wanted::Written) => *count == 1,
+        (Reply::Select(rows), Wanted::Shown(wanted)) => are_rows(rows.as_slice(), wanted),
+        (Reply::Error { code, name, key }, Wanted::Refused(wanted, about, at)) => {
+            *code == wanted && is_about(name, about) && *key == at
+        }
+        (Reply::Error { code, name, key }, Wanted::NoMemory) => {
+            *code == Code::C53200 && name.is_none() && key.is_none()
+        }
+        _ => false,
+    }
+}
+
+/// Whether there is a reply, and it is what is wanted.
+pub fn comes_to(reply: &Option<Reply>, wanted: Wanted) -> bool {
+    match reply {
+        Some(reply) => is_wanted(reply, wanted),
+        None => false,
+    }
+}
