@@ -85,7 +85,7 @@ record Begins (s : State) (m : Migration) (plan : Plan) : Type 0 where
 
 -- ---- the half that a row begins with
 
-unfilled_is : (shape : Shape) (old : List Value) (at : ℕ) (cells : List Cell) → list_any is_make cells ≡ false → every (outcomes shape old None at cells) ≡ Ok (map (unfilled_value old) cells)
+pub unfilled_is : (shape : Shape) (old : List Value) (at : ℕ) (cells : List Cell) → list_any is_make cells ≡ false → every (outcomes shape old None at cells) ≡ Ok (map (unfilled_value old) cells)
 unfilled_is shape old at [] h = refl
 unfilled_is shape old at (Carry from ∷ cells) h = ap (λ r. and_then r (λ values. Ok (unfilled_value old (Carry from) ∷ values))) (unfilled_is shape old (at + 1) cells h)
 unfilled_is shape old at (Make up ∷ cells) h = cc

@@ -1,5 +1,8 @@
 -- What holds of the machine's steps and runs.
-use Rattle.std.specs.Prelude.{◌≡◌, ℕ, Bool, true, false, List}
+use Rattle.std.specs.Prelude.{◌≡◌, ℕ, Bool, true, false, List, None, Ok}
+use Rattle.sql_base.specs.declared.shapes.Shape.{Shape}
+use Rattle.sql_base.specs.declared.values.Value.{Value}
+use Rattle.mig_lens.specs.declared.columns.Lens.{Lens}
 use Rattle.mig_lens.specs.declared.columns.Side.TheVariants.{Old}
 use Rattle.machine.specs.declared.events.Entry.{Entry}
 use Rattle.machine.specs.declared.events.Event.{Event}
@@ -7,7 +10,9 @@ use Rattle.machine.specs.declared.events.Reply.{Reply}
 use Rattle.machine.specs.declared.events.Reply.TheVariants.{Insert, Select, Set, Error, Start, Fill, Filled, Complete, Refused}
 use Rattle.machine.specs.declared.states.Kept.{Kept}
 use Rattle.machine.specs.declared.states.State.{State}
-use Rattle.machine.specs.State.{Found, beginning, shown}
+use Rattle.mig_lens.specs.Layout.{has_mark}
+use Rattle.mig_lens.specs.Lens.{forward}
+use Rattle.machine.specs.State.{Found, beginning, shown, unfilled}
 use Rattle.machine.specs.Lawful.{IsLawful}
 use Rattle.machine.specs.Standing.{IsState}
 use Rattle.machine.specs.Step.{IsPlainStep, Run, Step}
@@ -20,21 +25,25 @@ StepsKeepStates = (s : State) (event : Event) (reply : Reply) (t : State) → St
 abbrev pub RunsReachStates : Type 0
 RunsReachStates = (number : ℕ) (history : List Entry) (t : State) → Run number beginning history t → IsState t
 
--- Whether a reply refuses its event.
-abbrev pub refuses : Reply → Bool
-refuses (Error code name key) = true
-refuses (Refused refusal) = true
-refuses (Insert count) = false
-refuses (Select rows) = false
-refuses Set = false
-refuses (Start name) = false
-refuses (Fill table count first last) = false
-refuses Filled = false
-refuses (Complete step) = false
+-- Whether a reply refuses its event, or answers one that only looks or sets a path.
+abbrev pub leaves_all : Reply → Bool
+leaves_all (Error code name key) = true
+leaves_all (Refused refusal) = true
+leaves_all (Select rows) = true
+leaves_all Set = true
+leaves_all (Insert count) = false
+leaves_all (Start name) = false
+leaves_all (Fill table count first last) = false
+leaves_all Filled = false
+leaves_all (Complete step) = false
 
--- A refused event changes nothing.
+-- Such an event changes nothing.
 abbrev pub RefusalsChangeNothing : Type 0
-RefusalsChangeNothing = (s : State) (event : Event) (reply : Reply) (t : State) → Step s event reply t → refuses reply ≡ true → t ≡ s
+RefusalsChangeNothing = (s : State) (event : Event) (reply : Reply) (t : State) → Step s event reply t → leaves_all reply ≡ true → t ≡ s
+
+-- Where no new column is made by an expression, the new half that a row begins with is the one that the lens makes of its old half.
+abbrev pub BegunHalvesAreMade : Type 0
+BegunHalvesAreMade = (lens : Lens) (old : Shape) (half : List Value) → has_mark lens ≡ false → forward lens old half None ≡ Ok (unfilled lens half)
 
 -- What a row shows through the old version never depends on its new half.
 abbrev pub OldShowsOldHalves : Type 0

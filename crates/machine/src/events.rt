@@ -45,8 +45,8 @@ pub enum Reply {
     Select(List<List<Value>>),
     /// The path is set.
     Set,
-    /// The statement is refused, with its code, with what the code is about (a table, a column, a constraint or
-    /// a limit), and with the key of the row where it was found. Nothing changed.
+    /// The statement is refused, or memory was wanting for it or for a batch (53200): a code, what the code is about (a
+    /// table, a column, a constraint or a limit), and the key of the row where it was found. Nothing changed.
     Error {
         code: Code,
         name: Option<Name>,

@@ -1,5 +1,5 @@
 //! Laws of the machine, over its definitions alone. Each is the contract of a function that does nothing.
-ghost use Rattle.machine.specs.Laws.{StepsKeepStates, RunsReachStates, RefusalsChangeNothing, OldShowsOldHalves, PlainStepsAreSteps, StepsKeepLaws, RunsReachLawful};
+ghost use Rattle.machine.specs.Laws.{StepsKeepStates, RunsReachStates, RefusalsChangeNothing, BegunHalvesAreMade, OldShowsOldHalves, PlainStepsAreSteps, StepsKeepLaws, RunsReachLawful};
 
 /// A step from a state that stands leads to one, and so does every run that begins as the program does: rows have
 /// their halves, which fit their shapes and have the row's key; rows ascend by key; schemas are well formed; the
@@ -9,9 +9,14 @@ pub fn states_stand()
     ensures runs { RunsReachStates }
 {}
 
-/// An event that is refused changes nothing.
+/// An event that is refused changes nothing, and neither does a SELECT or a SET.
 pub fn refusals_change_nothing()
     ensures { RefusalsChangeNothing }
+{}
+
+/// Where no new column is made by an expression, the new half that a row begins with is the one that the lens makes.
+pub fn begun_halves_are_made()
+    ensures { BegunHalvesAreMade }
 {}
 
 /// What a row shows through the old version never depends on its new half.
@@ -24,7 +29,8 @@ pub fn plain_steps_are_steps()
     ensures { PlainStepsAreSteps }
 {}
 
-/// No step breaks a constraint: while one version stands no row has a fault or has the same values as another in the
+/// A step from a lawful state that stands leads to a lawful one, and every run that begins as the program does reaches
+/// lawful states alone: while one version stands no row has a fault or has the same values as another in the
 /// columns of a unique constraint; while a migration is active no old half does, nor any new half of a table of which
 /// a new column has to be made. No half weighs more than its limit.
 pub fn states_stay_lawful()

@@ -62,7 +62,11 @@ fn outcome(alloc: Global, s: &State, event: &Event) -> Result<(Reply, State), St
 }
 
 /// What an event comes to in a state, where memory is there: the state after it and the reply. A batch takes the least
-/// keys that are to be filled, of the first table that has any. An error is want of memory.
+/// keys that are to be filled, of the first table that has any. An error is want of memory; in a state in which a key
+/// stands more than once it may also be a batch of more than 4,294,967,295 rows.
+///
+/// It is meant for small states: each event copies the state, a batch copies its table once for each row that it
+/// fills, and for each unique constraint COMPLETE compares each row with every other one.
 pub fn step(alloc: Global, s: &State, event: &Event) -> Result<(State, Reply), NoMemory>
     ensures { IfOk result (spec.IsPlainStep s.now event.now) }
 {

@@ -142,7 +142,8 @@ fn together(
     Ok(None)
 }
 
-// New rows, written where they are accepted. (More rows than a number of 32 bits counts are answered want of memory.)
+// New rows, written where they are accepted. (Together they are few enough for a number of 32 bits, so the last branch
+// is not met.)
 fn written(
     alloc: Global,
     s: &State,

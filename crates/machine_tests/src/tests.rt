@@ -2,7 +2,7 @@ mod replies;
 mod scripts;
 
 use machine::{Asked, Event, Reading, State, beginning, step};
-use mig_json::read_migration;
+use mig_json::{JsonFault, read_migration};
 use mig_lens::Refusal;
 use replies::reply_text;
 use scripts::{Line, SCRIPTS, line_of, names_of};
@@ -41,7 +41,11 @@ fn columns(alloc: Global, words: &str) -> Result<Items, NoMemory> {
 fn asked(alloc: Global, text: &str) -> Result<Asked, NoMemory> {
     match read_migration(alloc, text.as_bytes()) {
         Ok(migration) => Ok(Asked::Read(migration)),
-        Err(_) => Ok(Asked::Refused(Refusal::NotInit)),
+        Err(JsonFault::Json(path)) => Ok(Asked::Refused(Refusal::BadJson(path))),
+        Err(JsonFault::BadExpr(place)) => Ok(Asked::Refused(Refusal::BadExpr(place))),
+        Err(JsonFault::BadType(place)) => Ok(Asked::Refused(Refusal::BadType(place))),
+        Err(JsonFault::TooLong { .. }) => Ok(Asked::Refused(Refusal::Limit(name(alloc, "migration")?))),
+        Err(JsonFault::NoMemory) => Err(NoMemory),
     }
 }
 

@@ -112,6 +112,7 @@ fn push_refusal(alloc: Global, out: &mut Vec<u8>, refusal: &Refusal) -> Result<(
         Refusal::NameTaken(name) => push_name(out, "REFUSED P6 ", name),
         Refusal::NoSuchTable(name) => push_name(out, "REFUSED P7 ", name),
         Refusal::Exists(name) => push_name(out, "REFUSED P9 ", name),
+        Refusal::BadJson(path) => push_name(out, "REFUSED P16 ", path),
         Refusal::BackfillRefused(table, key, _) => {
             push_two(alloc, out, "REFUSED P19 ", table, *key)
         }

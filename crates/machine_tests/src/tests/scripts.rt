@@ -38,7 +38,7 @@ pub fn names_of(words: &str) -> std::str::Split<'_, char> {
 
 /// The scripts, each with what it is answered. `path` sets the search path, and `columns` selects these columns of
 /// users.
-pub const SCRIPTS: [(&str, &str); 9] = [
+pub const SCRIPTS: [(&str, &str); 10] = [
     (
         "\
 INSERT INTO users (id, name) VALUES (1, 'a')
@@ -214,6 +214,18 @@ SET
 ERROR 42P01 users -
 SET
 SELECT
+",
+    ),
+    (
+        "\
+\\start {}
+\\start {\"name\":\"02\",\"operations\":[{\"drop_table\":{\"name\":\"users\"}}]}
+\\start {\"name\":\"x\",\"name\":\"02_b\",\"operations\":[{\"add_column\":{\"table\":\"users\",\"column\":{\"name\":\"age\",\"type\":\"bigint\",\"nullable\":true}}}]}
+",
+        "\
+REFUSED P16 name
+REFUSED P16 operations[0]
+START public_02_b
 ",
     ),
     ("\n", ""),
