@@ -44,7 +44,10 @@ fn asked(alloc: Global, text: &str) -> Result<Asked, NoMemory> {
         Err(JsonFault::Json(path)) => Ok(Asked::Refused(Refusal::BadJson(path))),
         Err(JsonFault::BadExpr(place)) => Ok(Asked::Refused(Refusal::BadExpr(place))),
         Err(JsonFault::BadType(place)) => Ok(Asked::Refused(Refusal::BadType(place))),
-        Err(JsonFault::TooLong { .. }) => Ok(Asked::Refused(Refusal::Limit(name(alloc, "migration")?))),
+        Err(JsonFault::TooLong { .. }) => Ok(Asked::Refused(Refusal::Limit(name(
+            alloc,
+            "migration",
+        )?))),
         Err(JsonFault::NoMemory) => Err(NoMemory),
     }
 }
