@@ -36,6 +36,13 @@ pub fn syntax() -> Reply
     bare(Code::C42601)
 }
 
+/// Memory is wanting.
+pub fn no_memory() -> Reply
+    ensures { result ≡ spec.no_memory }
+{
+    bare(Code::C53200)
+}
+
 /// The path finds no table of this name.
 pub fn no_table(alloc: Global, table: &Name) -> Result<Reply, NoMemory>
     ensures { IfOk result (λ reply. reply ≡ spec.no_table table.now) }
@@ -79,6 +86,6 @@ pub fn untyped(fault: TypeFault) -> Reply
             key: None,
         },
         TypeFault::Mismatch => bare(Code::C42804),
-        TypeFault::NoMemory => bare(Code::C53200),
+        TypeFault::NoMemory => no_memory(),
     }
 }

@@ -54,7 +54,8 @@ fn evaluated(
     Ok(values)
 }
 
-fn picked(
+/// What was asked for of one row.
+pub fn picked(
     alloc: Global,
     items: &Items,
     shape: &Shape,
@@ -127,8 +128,12 @@ fn select_rows(
     Ok((Reply::Select(all), s.copy(alloc)?))
 }
 
-// Why the items aren't accepted, where one has no type.
-fn untyped_items(alloc: Global, shape: &Shape, items: &Items) -> Result<Option<TypeFault>, NoMemory>
+/// Why the items aren't accepted, where one has no type.
+pub fn untyped_items(
+    alloc: Global,
+    shape: &Shape,
+    items: &Items,
+) -> Result<Option<TypeFault>, NoMemory>
     ensures { IfOk result (λ fault. fault ≡ plain.fault_of (spec.typed shape.now items.now)) }
 {
     match typed(alloc, shape, items) {

@@ -1,7 +1,7 @@
 //! Callers of the top call whose own contracts follow from its clauses alone.
 ghost use Rattle.std.specs.Prelude.{◌≡◌, ◌⊎◌, ◌<◌, ◌≤◌, ◌++◌, List, length, IfOk};
 ghost use Rattle.pg_io.specs.Causes.{Rose};
-ghost use Rattle.roll_core.specs.declared.model.Entry.{Entry};
+ghost use Rattle.machine.specs.declared.events.Entry.{Entry};
 ghost use Rattle.pgroll_top.specs.declared.ending.End.TheVariants.{Usage, WantOfMemory};
 ghost use Rattle.pgroll_top.specs.Top.{IsForm, end_line, limit, texts};
 ghost use Rattle.pgroll_top.specs.Work.{IsHistory, IsShown, Follows, Begins, lines_of};

@@ -1,10 +1,10 @@
 -- What the one history says of each status.
-use Rattle.std.proofs.Common.{◌≡◌, ◌⊎◌, ℕ, ◌≤◌, List, length, Option, None, Some, refl, ◌∙◌, inl, inr, ⊎_elim, arith, ap, length-append}
+use Rattle.std.proofs.Common.{◌≡◌, ◌⊎◌, ℕ, List, refl, ◌∙◌, inl, inr, ⊎_elim, arith}
 use Rattle.pg_io.proofs.Known.{beyond_whole, within_passes}
 use Rattle.pgroll_top.specs.declared.ending.End.{End}
 use Rattle.pgroll_top.specs.declared.ending.End.TheVariants.{Done, Usage, ReadFault, InputTooLong, WantOfMemory}
-use Rattle.roll_core.specs.declared.model.Entry.{Entry}
-use Rattle.pg_io.specs.Outside.{Known, Faulted, Quiet, PassesLimit, IsWithin, IsBeyond, ReadsWhole}
+use Rattle.machine.specs.declared.events.Entry.{Entry}
+use Rattle.pg_io.specs.Outside.{Known, Faulted, Quiet, PassesLimit, IsWithin, IsBeyond}
 use Rattle.pgroll_top.specs.Top.{DoesPart, IsForm, HasInput, IsDone, Explains, Because, limit, status_of}
 
 -- an end by its status

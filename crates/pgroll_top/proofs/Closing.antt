@@ -5,8 +5,8 @@ use Rattle.pg_io.specs.Outside.{Known, Faulted, PassesLimit, Quiet, ReadsFront}
 use Rattle.pg_io.specs.declared.whole.InputFault.{InputFault}
 use Rattle.pg_io.specs.declared.whole.InputFault.TheVariants.{Failed as InputFailed, TooLong, NoMemory as OutOfMemory}
 use Rattle.pg_io.proofs.Known.{appends_more, rose_since}
-use Rattle.roll_core.specs.declared.model.Entry.{Entry}
-use Rattle.roll_core.specs.State.{beginning}
+use Rattle.machine.specs.declared.events.Entry.{Entry}
+use Rattle.machine.specs.State.{beginning}
 use Rattle.pgroll_top.specs.declared.ending.End.{End}
 use Rattle.pgroll_top.specs.declared.ending.End.TheVariants.{WantOfMemory}
 use Rattle.pgroll_top.specs.declared.ending.Stop.TheVariants.{NoMemory}

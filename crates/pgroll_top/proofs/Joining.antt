@@ -1,5 +1,5 @@
 -- The values of a row, with bars between them.
-use Rattle.std.proofs.Common.{◌≡◌, ℕ, List, [], ◌∷◌, ◌++◌, map, refl, ap, append-nil, append_assoc, codes, sym}
+use Rattle.std.proofs.Common.{◌≡◌, OnOk, Result, Ok, Err, ℕ, List, [], ◌∷◌, ◌++◌, map, refl, ap, append-nil, append_assoc, codes, sym}
 use Rattle.std.specs.List.{flat_map, join_with_byte}
 use Rattle.sql_base.specs.declared.values.Value.{Value}
 use Rattle.roll_core.specs.Lines.{value_text, row_text}
@@ -17,3 +17,15 @@ join-values (value ∷ values) = join_with_byte-cons 124 value_text value values
 -- a row whose parts were pushed one after another
 pub row_pushed : (row : List Value) (old blanks values out : List ℕ) → blanks ≡ old ++ codes "  " → values ≡ blanks ++ values_text row → out ≡ values ++ codes "\n" → out ≡ old ++ row_text row
 row_pushed row old blanks values out a b c = rw (c, b, a, join-values row) (simp append_assoc)
+
+-- parts that were pushed one after another
+pub three_pushed : (a b c old x y z : List ℕ) → x ≡ old ++ a → y ≡ x ++ b → z ≡ y ++ c → z ≡ old ++ (a ++ (b ++ c))
+three_pushed a b c old x y z p q r = rw (r, q, p) (simp append_assoc)
+
+pub four_pushed : (a b c d old x y z w : List ℕ) → x ≡ old ++ a → y ≡ x ++ b → z ≡ y ++ c → w ≡ z ++ d → w ≡ old ++ (a ++ (b ++ (c ++ d)))
+four_pushed a b c d old x y z w p q r s = rw (s, r, q, p) (simp append_assoc)
+
+-- what follows where the last part was pushed
+pub on_ok : {T E P Q : Type 0} (result : Result T E) → (P → Q) → OnOk result P → OnOk result Q
+on_ok (Ok value) f p = f p
+on_ok (Err fault) f p = tt

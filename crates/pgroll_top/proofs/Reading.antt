@@ -4,8 +4,8 @@ use Rattle.sql_small.specs.Small.{Reads}
 use Rattle.sql_small.specs.SmallSteps.{found_in}
 use Rattle.sql_base.specs.declared.stmts.Stmt.{Stmt}
 use Rattle.sql_small.proofs.SmallReading.{found_in_reads}
-use Rattle.roll_core.specs.declared.model.Reading.{Reading}
-use Rattle.roll_core.specs.declared.model.Reading.TheVariants.{Stmt as Read, Syntax}
+use Rattle.machine.specs.declared.events.Reading.{Reading}
+use Rattle.machine.specs.declared.events.Reading.TheVariants.{Stmt as Read, Syntax}
 use Rattle.pgroll_top.specs.Work.{ReadsAs}
 
 reading_of : (line : List ℕ) (found : Option Stmt) → MatchOption found ((stmt : Stmt) → ¬ Reads line stmt) (λ stmt. Reads line stmt) → (reading : Reading) × ReadsAs line reading

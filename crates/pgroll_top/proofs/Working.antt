@@ -1,17 +1,16 @@
 -- The work on a text, a line at a time.
-use Rattle.std.proofs.Common.{arith, ◌≡◌, ℕ, ◌+◌, ◌<◌, ◌≤◌, false, List, [], ◌∷◌, ◌++◌, length, Option, Result, Err, sym, refl, ap, ◌∙◌, subst, append_assoc, append-nil, length-append, inl, inr}
+use Rattle.std.proofs.Common.{arith, ◌≡◌, ℕ, ◌+◌, ◌<◌, ◌≤◌, false, List, [], ◌∷◌, ◌++◌, length, Option, Err, sym, refl, ap, ◌∙◌, subst, append_assoc, append-nil, length-append, inl, inr}
 use Rattle.std.proofs.lemmas.Grind.{flat_map-append}
 use Rattle.std.specs.Io.KnownBytes.{Appends}
-use Rattle.pg_io.specs.Outside.{Known, Cut}
+use Rattle.pg_io.specs.Outside.{Known}
 use Rattle.pg_io.proofs.Known.{appends_more, appends_kept, appends_none, rose_since}
-use Rattle.roll_core.specs.declared.model.Entry.{Entry}
-use Rattle.roll_core.specs.declared.model.Event.TheVariants.{Said}
-use Rattle.roll_core.specs.declared.model.Reading.{Reading}
-use Rattle.roll_core.specs.declared.model.Reply.{Reply}
-use Rattle.roll_core.specs.declared.model.State.{State}
-use Rattle.roll_core.specs.Lines.{numbered}
-use Rattle.roll_core.specs.State.{beginning}
-use Rattle.roll_core.specs.Step.{Step, Run}
+use Rattle.machine.specs.declared.events.Entry.{Entry}
+use Rattle.machine.specs.declared.events.Event.TheVariants.{Said}
+use Rattle.machine.specs.declared.events.Reading.{Reading}
+use Rattle.machine.specs.declared.events.Reply.{Reply}
+use Rattle.machine.specs.declared.states.State.{State}
+use Rattle.machine.specs.State.{beginning}
+use Rattle.machine.specs.Step.{Step, Run}
 use Rattle.pgroll_top.specs.declared.ending.Stop.{Stop}
 use Rattle.pgroll_top.specs.declared.ending.Stop.TheVariants.{WriteFault, NoMemory}
 use Rattle.pgroll_top.specs.Input.{split_lines, is_passed, statements_of}

@@ -5,8 +5,8 @@ use Rattle.pg_io.specs.Outside.{Known, Cut, Quiet}
 use Rattle.pg_io.specs.declared.whole.InputFault.{InputFault}
 use Rattle.pg_io.specs.declared.whole.InputFault.TheVariants.{Failed as InputFailed, TooLong, NoMemory as OutOfMemory}
 use Rattle.sql_base.specs.declared.stmts.Stmt.{Stmt}
-use Rattle.roll_core.specs.declared.model.Entry.{Entry}
-use Rattle.roll_core.specs.declared.model.Reading.TheVariants.{Stmt as Read, Syntax}
+use Rattle.machine.specs.declared.events.Entry.{Entry}
+use Rattle.machine.specs.declared.events.Reading.TheVariants.{Stmt as Read, Syntax}
 use Rattle.pgroll_top.specs.declared.ending.End.{End}
 use Rattle.pgroll_top.specs.declared.ending.End.TheVariants.{ReadFault, InputTooLong, WantOfMemory}
 use Rattle.pgroll_top.specs.declared.ending.Stop.{Stop}

@@ -3,7 +3,7 @@ use Rattle.std.specs.Prelude.{◌≡◌, ◌⊎◌, ℕ, ◌≤◌, List, [], �
 use Rattle.std.specs.declared.alloc.Global.{Global}
 use Rattle.std.specs.Io.KnownBytes.{Appends}
 use Rattle.pg_io.specs.Outside.{Known, Cut, Faulted, Quiet, Untouched, ReadsFront, ReadsWhole, PassesLimit}
-use Rattle.roll_core.specs.declared.model.Entry.{Entry}
+use Rattle.machine.specs.declared.events.Entry.{Entry}
 use Rattle.pgroll_top.specs.declared.ending.End.{End}
 use Rattle.pgroll_top.specs.declared.ending.End.TheVariants.{Done, Usage, ReadFault, InputTooLong, WantOfMemory}
 use Rattle.pgroll_top.specs.Work.{IsHistory, IsShown, Follows, Begins, lines_of, line_of}

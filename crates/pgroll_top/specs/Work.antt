@@ -2,14 +2,14 @@
 use Rattle.std.specs.Prelude.{◌≡◌, ◌⊎◌, ℕ, List, [], ◌∷◌, ◌++◌, codes}
 use Rattle.sql_base.specs.declared.stmts.Stmt.{Stmt}
 use Rattle.sql_small.specs.Small.{Reads}
-use Rattle.roll_core.specs.declared.model.Entry.{Entry}
-use Rattle.roll_core.specs.declared.model.Event.TheVariants.{Said}
-use Rattle.roll_core.specs.declared.model.Reading.{Reading}
-use Rattle.roll_core.specs.declared.model.Reading.TheVariants.{Stmt as Read, Syntax}
-use Rattle.roll_core.specs.declared.model.State.{State}
+use Rattle.machine.specs.declared.events.Entry.{Entry}
+use Rattle.machine.specs.declared.events.Event.TheVariants.{Said}
+use Rattle.machine.specs.declared.events.Reading.{Reading}
+use Rattle.machine.specs.declared.events.Reading.TheVariants.{Stmt as Read, Syntax}
+use Rattle.machine.specs.declared.states.State.{State}
 use Rattle.roll_core.specs.Lines as lines
-use Rattle.roll_core.specs.State.{beginning, path_name}
-use Rattle.roll_core.specs.Step.{Run}
+use Rattle.machine.specs.State.{beginning, path_name}
+use Rattle.machine.specs.Step.{Run}
 use Rattle.pgroll_top.specs.Input.{statements_of}
 
 -- ---- actors

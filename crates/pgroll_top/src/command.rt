@@ -2,7 +2,7 @@
 ghost use Rattle.std.specs.Prelude.{◌≡◌, ◌⊎◌, ◌≤◌, ◌↔◌, List, IsTrue, codes, string_bytes};
 ghost use Rattle.pg_io.specs.Causes.{Rose};
 ghost use Rattle.pg_io.specs.Outside.{known, PassesLimit, IsWithin, IsBeyond};
-ghost use Rattle.roll_core.specs.declared.model.Entry.{Entry};
+ghost use Rattle.machine.specs.declared.events.Entry.{Entry};
 ghost use Rattle.pgroll_top.specs.Top.{texts, IsForm, HasInput, IsDone, Explains, limit};
 
 use crate::ending::{End, Stop, WRITE_FAULT, close, end_of_fault};

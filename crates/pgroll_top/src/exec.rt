@@ -1,13 +1,13 @@
 //! The work of `exec`: what the lines of an input say, in order, each with its line of output.
 ghost use Rattle.std.specs.Prelude.{◌≡◌, ◌≤◌, List, None, IfOk, codes, length};
 ghost use Rattle.pg_io.specs.Outside.{known};
-ghost use Rattle.roll_core.specs.declared.model.Entry.{Entry};
-ghost use Rattle.roll_core.specs.declared.model.Event.TheVariants.{Said};
-ghost use Rattle.roll_core.specs.declared.model.Reading.{Reading};
-ghost use Rattle.roll_core.specs.declared.model.Reply.{Reply as AnyReply};
-ghost use Rattle.roll_core.specs.State.{beginning};
+ghost use Rattle.machine.specs.declared.events.Entry.{Entry};
+ghost use Rattle.machine.specs.declared.events.Event.TheVariants.{Said};
+ghost use Rattle.machine.specs.declared.events.Reading.{Reading};
+ghost use Rattle.machine.specs.declared.events.Reply.{Reply as AnyReply};
+ghost use Rattle.machine.specs.State.{beginning};
 ghost use Rattle.roll_core.specs.Lines.{numbered};
-ghost use Rattle.roll_core.specs.Step.{Step};
+ghost use Rattle.machine.specs.Step.{Step};
 ghost use Rattle.pgroll_top.specs.Parts.{IsReading, Shows, Works};
 ghost use Rattle.pgroll_top.specs.Top.{limit};
 ghost use Rattle.pgroll_top.specs.Work.{ReadsAs, IsHistory, first_path};
@@ -15,9 +15,9 @@ ghost use Rattle.pgroll_top.specs.Work.{ReadsAs, IsHistory, first_path};
 use crate::ending::Stop;
 use crate::input::{is_passed, split_line};
 use crate::report::line_of;
+use machine::Reply;
 use pg_io::{Sink, write_whole};
 use roll_core::Core;
-use roll_core::model::Reply;
 use sql_base::{Code, Name, NoMemory, Stmt};
 use std::alloc::Global;
 

@@ -5,6 +5,7 @@ mod command;
 mod ending;
 mod exec;
 mod input;
+mod refused;
 mod report;
 
 pub use command::top;

@@ -6,11 +6,14 @@ ghost use Rattle.std.specs.Option.{option_map_or};
 ghost use Rattle.roll_core.specs.Lines as spec;
 ghost use Rattle.pgroll_top.specs.Report.{values_text};
 
-use roll_core::model::Reply;
+use crate::refused::push_refusal;
+use machine::Reply;
+use mig_lens::Refusal;
 use sql_base::{Code, List, Name, NoMemory, SqlText, Value};
 use std::alloc::Global;
 
-fn code_text(code: Code) -> &'static str
+/// A code, without the letter that its name begins with.
+pub fn code_text(code: Code) -> &'static str
     ensures { result.now ≡ spec.code_text code }
 {
     match code {
@@ -54,7 +57,8 @@ fn push_text(out: &mut Vec<u8>, text: &SqlText) -> Result<(), NoMemory>
     Ok(())
 }
 
-fn push_int(out: &mut Vec<u8>, alloc: Global, n: i64) -> Result<(), NoMemory>
+/// A number that may be below 0.
+pub fn push_int(out: &mut Vec<u8>, alloc: Global, n: i64) -> Result<(), NoMemory>
     ensures { OnOk result (out.new.items ≡ out.old.items ++ signed_decimal n) }
 {
     let digits = format!(in alloc; "{n}")?;
@@ -152,7 +156,8 @@ fn push_error(
     Ok(())
 }
 
-fn push_count(out: &mut Vec<u8>, alloc: Global, count: u64) -> Result<(), NoMemory>
+/// A number.
+pub fn push_count(out: &mut Vec<u8>, alloc: Global, count: u64) -> Result<(), NoMemory>
     ensures { OnOk result (out.new.items ≡ out.old.items ++ decimal count) }
 {
     let digits = format!(in alloc; "{count}")?;
@@ -169,17 +174,91 @@ fn push_select(out: &mut Vec<u8>, alloc: Global, rows: &[List<Value>]) -> Result
     push_rows(out, alloc, rows)
 }
 
+fn push_insert(out: &mut Vec<u8>, alloc: Global, count: u32) -> Result<(), NoMemory>
+    ensures { OnOk result (out.new.items ≡ out.old.items ++ spec.reply_text (Reply.Insert count)) }
+{
+    out.extend_from_slice(b"INSERT 0 ")?;
+    push_count(out, alloc, u64::from(count))?;
+    Ok(out.extend_from_slice(b"\n")?)
+}
+
+fn push_start(out: &mut Vec<u8>, name: &Name) -> Result<(), NoMemory>
+    ensures { OnOk result (out.new.items ≡ out.old.items ++ spec.reply_text (Reply.Start name.now)) }
+{
+    out.extend_from_slice(b"START ")?;
+    out.extend_from_slice(b"public_")?;
+    out.extend_from_slice(name.as_slice())?;
+    Ok(out.extend_from_slice(b"\n")?)
+}
+
+// The number of rows of a batch, and the least and the greatest of their keys.
+fn push_batch(
+    out: &mut Vec<u8>,
+    alloc: Global,
+    count: u32,
+    first: i64,
+    last: i64,
+) -> Result<(), NoMemory>
+    ensures { OnOk result (out.new.items ≡ out.old.items ++ spec.three_words (decimal count) (signed_decimal first) (signed_decimal last)) }
+{
+    push_count(out, alloc, u64::from(count))?;
+    out.extend_from_slice(b" ")?;
+    push_int(out, alloc, first)?;
+    out.extend_from_slice(b" ")?;
+    push_int(out, alloc, last)
+}
+
+fn push_fill(
+    out: &mut Vec<u8>,
+    alloc: Global,
+    table: &Name,
+    count: u32,
+    first: i64,
+    last: i64,
+) -> Result<(), NoMemory>
+    ensures { OnOk result (out.new.items ≡ out.old.items ++ spec.reply_text (Reply.Fill table.now count first last)) }
+{
+    out.extend_from_slice(b"FILL ")?;
+    out.extend_from_slice(table.as_slice())?;
+    out.extend_from_slice(b" ")?;
+    push_batch(out, alloc, count, first, last)?;
+    Ok(out.extend_from_slice(b"\n")?)
+}
+
+fn push_complete(out: &mut Vec<u8>, alloc: Global, step: u8) -> Result<(), NoMemory>
+    ensures { OnOk result (out.new.items ≡ out.old.items ++ spec.reply_text (Reply.Complete step)) }
+{
+    out.extend_from_slice(b"COMPLETE ")?;
+    push_count(out, alloc, u64::from(step))?;
+    Ok(out.extend_from_slice(b"\n")?)
+}
+
+fn push_refused(out: &mut Vec<u8>, alloc: Global, refusal: &Refusal) -> Result<(), NoMemory>
+    ensures { OnOk result (out.new.items ≡ out.old.items ++ spec.reply_text (Reply.Refused refusal.now)) }
+{
+    out.extend_from_slice(b"REFUSED ")?;
+    push_refusal(out, alloc, refusal)?;
+    Ok(out.extend_from_slice(b"\n")?)
+}
+
 fn push_reply(out: &mut Vec<u8>, alloc: Global, reply: &Reply) -> Result<(), NoMemory>
     ensures { OnOk result (out.new.items ≡ out.old.items ++ spec.reply_text reply.now) }
 {
     match reply {
-        Reply::Insert(count) => {
-            out.extend_from_slice(b"INSERT 0 ")?;
-            push_count(out, alloc, u64::from(*count))?;
-            Ok(out.extend_from_slice(b"\n")?)
-        }
+        Reply::Insert(count) => push_insert(out, alloc, *count),
         Reply::Select(rows) => push_select(out, alloc, rows.as_slice()),
+        Reply::Set => Ok(out.extend_from_slice(b"SET\n")?),
         Reply::Error { code, name, key } => push_error(out, alloc, *code, name, *key),
+        Reply::Start(name) => push_start(out, name),
+        Reply::Fill {
+            table,
+            count,
+            first,
+            last,
+        } => push_fill(out, alloc, table, *count, *first, *last),
+        Reply::Filled => Ok(out.extend_from_slice(b"FILLED\n")?),
+        Reply::Complete(step) => push_complete(out, alloc, *step),
+        Reply::Refused(refusal) => push_refused(out, alloc, refusal),
     }
 }
 

@@ -1,7 +1,2 @@
-pub mod State
-pub mod Statement
-pub mod Step
-pub mod Laws
-pub mod Lines
-pub mod Plain
 pub mod Engine
+pub mod Lines

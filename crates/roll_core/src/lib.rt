@@ -1,18 +1,9 @@
-//! The engine, and the machine that it is: what every statement answers and leaves.
+//! The engine: every statement that is said to it is one step of the machine.
 //!
-//! `model` has the machine as plain data: its states, its events and its replies. The definitions of what it
-//! may answer stand in `specs/`: `State` how a statement finds its table and the rows in it, `Statement` what
-//! each statement comes to, `Step` the step and the run, `Lines` how a history is told, `Engine` what the engine's
-//! map of rows means. `Core` is the engine: it keeps its rows in a map, and each statement is one step of the
-//! machine.
+//! The machine's states, events, replies and steps are those of the crate `machine`. Of the definitions here `Engine`
+//! has what the engine's map of rows means as such a state, and `Lines` how a history of the machine is told.
 #![tactic(auto)]
 
 mod engine;
-pub mod laws;
-mod literals;
-pub mod model;
-mod plain;
-mod refusals;
 
-pub use engine::Core;
-pub use plain::step;
+pub use engine::{Core, MAX_REPLY, MAX_ROWS};

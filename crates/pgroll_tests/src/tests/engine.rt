@@ -33,6 +33,7 @@ pub type Row = (Said, Wanted, Rows);
 pub const SESSION: &[Row] = &[
     // The path: the first version that stands is taken, and names that no version has are passed by.
     (Said::Line(PATH, ALL), Wanted::Shown(&[]), &[]),
+    (Said::Numbers, Wanted::Shown(&[]), &[]),
     (
         Said::Line(&["public_02_users", VERSION], ALL),
         Wanted::Shown(&[]),
@@ -72,6 +73,28 @@ pub const SESSION: &[Row] = &[
     (
         Said::Row("users", COLUMNS, 2),
         Wanted::Written,
+        &[(-2, ""), (1, "a"), (7, "xx")],
+    ),
+    // Listed items: each has a type before any row is looked at; a fault tells its row.
+    (
+        Said::Columns(COLUMNS),
+        Wanted::Shown(&[(-2, ""), (1, "a"), (7, "xx")]),
+        &[(-2, ""), (1, "a"), (7, "xx")],
+    ),
+    (
+        Said::Columns(&["id", "age"]),
+        Wanted::Refused(Code::C42703, Some("age"), None),
+        &[(-2, ""), (1, "a"), (7, "xx")],
+    ),
+    (
+        Said::Numbers,
+        Wanted::Refused(Code::C22P02, None, Some(-2)),
+        &[(-2, ""), (1, "a"), (7, "xx")],
+    ),
+    // A path is set without a look at its names.
+    (
+        Said::Path(&["public_02_users"]),
+        Wanted::Set,
         &[(-2, ""), (1, "a"), (7, "xx")],
     ),
     // A present key of a row that is too heavy.

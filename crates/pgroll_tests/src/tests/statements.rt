@@ -1,7 +1,8 @@
 // Statements of a test, what they have to come to, and whether a reply is that.
+use machine::Reply;
 use roll_core::Core;
-use roll_core::model::Reply;
-use sql_base::{Code, Expr, List, Name, NoMemory, SqlText, Stmt, Value};
+use sql_base::{Code, Expr, Items, List, Name, NoMemory, SqlText, Stmt, Ty, Value};
+use sqlite_items::Boxed;
 use std::alloc::Global;
 
 pub const VERSION: &str = "public_01_users";
@@ -11,6 +12,12 @@ pub const VERSION: &str = "public_01_users";
 pub enum Said {
     /// A line, through a path of versions.
     Line(&'static [&'static str], &'static str),
+    /// A SELECT of these columns of the table `users`.
+    Columns(&'static [&'static str]),
+    /// A SELECT of the key and of the name as a number.
+    Numbers,
+    /// SET of a path of these versions.
+    Path(&'static [&'static str]),
     /// An INSERT into a table, with these names of columns, of the row with the key 7 and a text of so many bytes.
     Row(&'static str, &'static [&'static str], usize),
 }
@@ -20,6 +27,8 @@ pub enum Said {
 pub enum Wanted {
     /// One row is written.
     Written,
+    /// The path is set.
+    Set,
     /// These rows are shown.
     Shown(&'static [(i64, &'static str)]),
     /// It is refused, with this code, about this, at the row of this key.
@@ -89,10 +98,46 @@ fn row(
     Ok(Some(core.statement(&path, &stmt)))
 }
 
+// The reply to a SELECT of these items.
+fn query(alloc: Global, core: &mut Core, items: List<Expr>) -> Result<Option<Reply>, NoMemory> {
+    let path = names_of(alloc, &[VERSION])?;
+    let table = Name::from_slice(alloc, b"users")?;
+    let stmt = Stmt::Query(table, Items::Listed(items), None);
+    Ok(Some(core.statement(&path, &stmt)))
+}
+
+fn column(alloc: Global, name: &str) -> Result<Expr, NoMemory> {
+    Ok(Expr::Col(Name::from_slice(alloc, name.as_bytes())?))
+}
+
+fn columns(alloc: Global, core: &mut Core, names: &[&str]) -> Result<Option<Reply>, NoMemory> {
+    let mut items = List::new(alloc);
+    for name in names {
+        items.push(column(alloc, *name)?)?;
+    }
+    query(alloc, core, items)
+}
+
+fn numbers(alloc: Global, core: &mut Core) -> Result<Option<Reply>, NoMemory> {
+    let mut items = List::new(alloc);
+    items.push(column(alloc, "id")?)?;
+    items.push(Expr::Cast(Boxed::new(alloc, column(alloc, "name")?)?, Ty::Bigint))?;
+    query(alloc, core, items)
+}
+
+fn set_path(alloc: Global, core: &mut Core, words: &[&str]) -> Result<Option<Reply>, NoMemory> {
+    let path = names_of(alloc, &[VERSION])?;
+    let stmt = Stmt::SetPath(List::from_vec(names_of(alloc, words)?));
+    Ok(Some(core.statement(&path, &stmt)))
+}
+
 /// The reply to what is said, or nothing where it reads as no statement.
 pub fn reply_to(alloc: Global, core: &mut Core, said: Said) -> Result<Option<Reply>, NoMemory> {
     match said {
         Said::Line(path, text) => line(alloc, core, path, text),
+        Said::Columns(names) => columns(alloc, core, names),
+        Said::Numbers => numbers(alloc, core),
+        Said::Path(words) => set_path(alloc, core, words),
         Said::Row(table, columns, length) => row(alloc, core, table, columns, length),
     }
 }
@@ -128,6 +173,7 @@ fn are_rows(rows: &[List<Value>], wanted: &[(i64, &str)]) -> bool {
 pub fn is_wanted(reply: &Reply, wanted: Wanted) -> bool {
     match (reply, wanted) {
         (Reply::Insert(count), Wanted::Written) => *count == 1,
+        (Reply::Set, Wanted::Set) => true,
         (Reply::Select(rows), Wanted::Shown(wanted)) => are_rows(rows.as_slice(), wanted),
         (Reply::Error { code, name, key }, Wanted::Refused(wanted, about, at)) => {
             *code == wanted && is_about(name, about) && *key == at

@@ -1,5 +1,5 @@
 use Rattle.std.proofs.Common.{subst}
-use Rattle.roll_core.specs.declared.model.Reading.TheVariants.{Stmt as Read}
+use Rattle.machine.specs.declared.events.Reading.TheVariants.{Stmt as Read}
 use Rattle.pgroll_top.specs.Parts.{IsReading}
 use Rattle.pgroll_top.proofs.exec.said.Goals as goal
 

@@ -1,7 +1,7 @@
 use Rattle.std.proofs.Common.{sym, subst, ◌∙◌}
 use Rattle.std.proofs.lemmas.Result.{err_from_is_err_and}
-use Rattle.roll_core.specs.declared.model.Event.TheVariants.{Said}
-use Rattle.roll_core.specs.Step.{Step}
+use Rattle.machine.specs.declared.events.Event.TheVariants.{Said}
+use Rattle.machine.specs.Step.{Step}
 use Rattle.pgroll_top.proofs.Working.{worked_more, worked_stopped}
 use Rattle.pgroll_top.proofs.exec.work_on.Goals as goal
 

@@ -1,6 +1,6 @@
 use Rattle.std.proofs.Common.{List, length}
 use Rattle.pg_io.specs.Outside.{known}
-use Rattle.roll_core.specs.declared.model.Entry.{Entry}
+use Rattle.machine.specs.declared.events.Entry.{Entry}
 use Rattle.pgroll_top.proofs.Working.{Worked}
 use Rattle.pgroll_top.proofs.exec.work_on.Given as goal
 

@@ -1,5 +1,5 @@
 use Rattle.std.proofs.Common.{◌≡◌, drop}
-use Rattle.roll_core.specs.State.{table_of}
+use Rattle.machine.specs.State.{table_of}
 use Rattle.roll_core.proofs.engine.Core.has_table.Given as goal
 
 abbrev pub invariant-loop-version : goal.invariant-loop-version

@@ -6,4 +6,4 @@ pub returns-in-Ok-clause-ok : goal.returns-in-Ok-clause-ok
 returns-in-Ok-clause-ok c =
     let fits = c.ranges.key in
     let entries = simp to_z-of_z at c.in-Ok.ensures.entries in
-    rw (← c.self.view_is) (put_means c.self.inside.version c.self.inside.table c.self.inside.shape c.self.inside.rows.entries c.insert.new.self.entries c.args.key c.args.values entries)
+    rw (← c.self.view_is) (put_means c.self.inside.version c.self.inside.rows.entries c.insert.new.self.entries c.args.key c.args.values entries)

@@ -1,6 +1,0 @@
-use Rattle.std.proofs.Common.{◌≡◌, drop}
-use Rattle.roll_core.specs.State.{table_of}
-use Rattle.roll_core.proofs.plain.table_of.Given as goal
-
-abbrev pub invariant-loop-named : goal.invariant-loop-named
-invariant-loop-named l = table_of l.s (drop l.named-index l.path) l.name ≡ table_of l.s l.path l.name
