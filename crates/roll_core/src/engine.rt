@@ -5,7 +5,7 @@ ghost use Rattle.machine.specs.declared.events.Event.TheVariants.{Said};
 ghost use Rattle.machine.specs.declared.events.Reading.TheVariants.{Stmt as Read};
 ghost use Rattle.machine.specs.State.{beginning, needed_column, path_name, put_row, row_count, rows_of, table_of, users, with_rows};
 ghost use Rattle.machine.specs.Accept as accept;
-ghost use Rattle.machine.specs.Laws.{refuses};
+ghost use Rattle.machine.specs.Laws.{leaves_all};
 ghost use Rattle.machine.specs.Statement as spec;
 ghost use Rattle.machine.specs.Stops as stops;
 ghost use Rattle.roll_core.specs.Engine as engine;
@@ -125,10 +125,10 @@ impl Core {
     }
 
     /// One step of the machine: the statement is said through this path of versions, by their names with
-    /// `public_`, and answered. A refused statement, and one that finds no memory, changes nothing.
+    /// `public_`, and answered. A refused statement, one that finds no memory, a SELECT and a SET change nothing.
     pub fn statement(&mut self, path: &[Name], stmt: &Stmt) -> Reply
         ensures step { Step self.old (Said path.now (Read stmt.now)) result self.new }
-        ensures refused { refuses result ≡ true → self.new ≡ self.old }
+        ensures refused { leaves_all result ≡ true → self.new ≡ self.old }
     {
         machine::laws::refusals_change_nothing();
         match self.answer(path, stmt) {
