@@ -1,0 +1,6 @@
+pub mod Building
+pub mod Grammar
+pub mod Laws
+pub mod Machine
+pub mod Reading
+pub mod Viable
