@@ -8,6 +8,7 @@ pub mod Filling
 pub mod Inserting
 pub mod Joining
 pub mod KeepingLaws
+pub mod Lanes
 pub mod LawfulRows
 pub mod LawfulTables
 pub mod Moving

@@ -15,7 +15,7 @@ use Rattle.mig_lens.specs.Lens.{forward}
 use Rattle.machine.specs.State.{Found, beginning, shown, unfilled}
 use Rattle.machine.specs.Lawful.{IsLawful}
 use Rattle.machine.specs.Standing.{IsState}
-use Rattle.machine.specs.Step.{IsPlainStep, Run, Step}
+use Rattle.machine.specs.Step.{IsPlainStep, LaneRun, LaneStep, Run, Step}
 
 -- A step leads from such a state to such a state.
 abbrev pub StepsKeepStates : Type 0
@@ -60,3 +60,11 @@ StepsKeepLaws = (s : State) (event : Event) (reply : Reply) (t : State) → Step
 -- So every run does that begins as the program does.
 abbrev pub RunsReachLawful : Type 0
 RunsReachLawful = (number : ℕ) (history : List Entry) (t : State) → Run number beginning history t → IsLawful t
+
+-- In a state that stands, a step that one lane takes is one of the machine's steps.
+abbrev pub LaneStepsAreSteps : Type 0
+LaneStepsAreSteps = (s : State) (event : Event) (reply : Reply) (t : State) → LaneStep s event reply t → IsState s → Step s event reply t
+
+-- So is every run of one lane that begins as the program does.
+abbrev pub LaneRunsAreRuns : Type 0
+LaneRunsAreRuns = (number : ℕ) (history : List Entry) (t : State) → LaneRun number beginning history t → Run number beginning history t

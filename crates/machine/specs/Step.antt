@@ -78,3 +78,17 @@ plain_outcome s Complete = as_outcome (complete s)
 
 abbrev pub IsPlainStep : State → Event → State × Reply → Type 0
 IsPlainStep s event r = ComesTo s (plain_outcome s event) r.1 r.0
+
+-- ---- one lane
+
+-- A step as one lane takes it: a batch takes the least missing keys of the first table that has any.
+abbrev pub LaneStep : State → Event → Reply → State → Type 0
+LaneStep s (Said path reading) reply t = Step s (Said path reading) reply t
+LaneStep s (Start asked) reply t = Step s (Start asked) reply t
+LaneStep s (Fill n) reply t = ComesTo s (as_outcome (least_fill s n)) reply t ⊎ FindsNoMemory s reply t
+LaneStep s Complete reply t = Step s Complete reply t
+
+-- One lane may go from s to t by these entries, one step after another. The first entry has this number, and each next one the next.
+abbrev pub LaneRun : ℕ → State → List Entry → State → Type 0
+LaneRun number s [] t = t ≡ s
+LaneRun number s (entry ∷ entries) t = (entry.number ≡ number) × (middle : State) × LaneStep s entry.event entry.reply middle × LaneRun (number + 1) middle entries t

@@ -1,5 +1,5 @@
 //! Laws of the machine, over its definitions alone. Each is the contract of a function that does nothing.
-ghost use Rattle.machine.specs.Laws.{StepsKeepStates, RunsReachStates, RefusalsChangeNothing, BegunHalvesAreMade, OldShowsOldHalves, PlainStepsAreSteps, StepsKeepLaws, RunsReachLawful};
+ghost use Rattle.machine.specs.Laws.{StepsKeepStates, RunsReachStates, RefusalsChangeNothing, BegunHalvesAreMade, OldShowsOldHalves, PlainStepsAreSteps, LaneStepsAreSteps, LaneRunsAreRuns, StepsKeepLaws, RunsReachLawful};
 
 /// A step from a state that stands leads to one, and so does every run that begins as the program does: rows have
 /// their halves, which fit their shapes and have the row's key; rows ascend by key; schemas are well formed; the
@@ -27,6 +27,12 @@ pub fn the_old_version_shows_old_halves()
 /// In a state that stands the plain step is one of the machine's steps.
 pub fn plain_steps_are_steps()
     ensures { PlainStepsAreSteps }
+{}
+
+/// What one lane does, whose batches take the least keys that are to be filled, is a run of the machine.
+pub fn lane_runs_are_runs()
+    ensures steps { LaneStepsAreSteps }
+    ensures runs { LaneRunsAreRuns }
 {}
 
 /// A step from a lawful state that stands leads to a lawful one, and every run that begins as the program does reaches
