@@ -1,6 +1,10 @@
 //! The small reader of lines, until the whole grammar is read.
 #![tactic(auto)]
 
+mod forms;
+mod items;
+mod marks;
+mod miss;
 mod small;
 
 pub use small::{a_text_reads_once, read};
