@@ -8,3 +8,6 @@ mod miss;
 mod small;
 
 pub use small::{a_text_reads_once, read};
+
+#[cfg(test)]
+mod tests;
