@@ -103,14 +103,14 @@ pub fn names(alloc: Global, tokens: &[Placed]) -> Result<(List<Name>, &[Placed])
 pub fn literals(alloc: Global, tokens: &[Placed]) -> Result<(List<Expr>, &[Placed]), Miss>
     ensures { steps.Gives (λ p. (p.0, steps.bare p.1.now)) (steps.literals_in (steps.bare tokens.now)) result }
 {
-    let mut list = List::new(alloc);
+    let mut row = List::new(alloc);
     let mut rest = tokens;
     loop {
-        let (one, behind) = literal(alloc, rest)?;
-        list.push(one)?;
-        match after_sign(Sign::Comma, behind) {
-            Ok(next) => rest = next,
-            Err(_) => return Ok((list, behind)),
+        let (value, after) = literal(alloc, rest)?;
+        row.push(value)?;
+        match after_sign(Sign::Comma, after) {
+            Ok(more) => rest = more,
+            Err(_) => return Ok((row, after)),
         }
     }
 }

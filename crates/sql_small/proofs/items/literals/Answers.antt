@@ -7,26 +7,26 @@ use Rattle.sql_small.proofs.SmallLists.{shorter, no_item, last_item, more_items,
 use Rattle.sql_text.specs.declared.tokens.Placed.{Placed}
 use Rattle.sql_small.proofs.items.literals.Goals as goal
 
-pub returns-in_err-one : goal.returns-in_err-one
-returns-in_err-one c =
+pub returns-in_err-value : goal.returns-in_err-value
+returns-in_err-value c =
     let p = err_from_is_err_and c.from_residual.result c.from_residual.ensures.1 in
-    rw (p.1, p.2) (λ e. sym c.loop-list.invariant ∙ ap (after_front c.loop-list.list) (no_item literal_in literal_keeps (bare c.loop-list.rest.now) (c.in_err-one.ensures e)))
+    rw (p.1, p.2) (λ e. sym c.loop-row.invariant ∙ ap (after_front c.loop-row.row) (no_item literal_in literal_keeps (bare c.loop-row.rest.now) (c.in_err-value.ensures e)))
 
-pub loop-list-smaller : goal.loop-list-smaller
-loop-list-smaller c =
+pub loop-row-smaller : goal.loop-row-smaller
+loop-row-smaller c =
     omega (
       arith,
-      shorter literal_in literal_keeps (bare c.loop-list.rest.now) (bare c.in_ok-one.behind.now) (bare c.in-Ok.next.now) c.in_ok-one.one c.in_ok-one.ensures c.in-Ok.ensures,
-      length-map c.in-Ok.next.now (λ (p : Placed). p.token),
-      length-map c.loop-list.rest.now (λ (p : Placed). p.token),
+      shorter literal_in literal_keeps (bare c.loop-row.rest.now) (bare c.in_ok-value.after.now) (bare c.in-Ok.more.now) c.in_ok-value.value c.in_ok-value.ensures c.in-Ok.ensures,
+      length-map c.in-Ok.more.now (λ (p : Placed). p.token),
+      length-map c.loop-row.rest.now (λ (p : Placed). p.token),
     )
 
-pub loop-list-preserved : goal.loop-list-preserved
-loop-list-preserved c =
-    let more = more_items literal_in literal_keeps (bare c.loop-list.rest.now) (bare c.in_ok-one.behind.now) (bare c.in-Ok.next.now) c.in_ok-one.one c.in_ok-one.ensures c.in-Ok.ensures in
-    rw c.in_ok-push.ensures.ok (sym (after_one c.loop-list.list c.in_ok-one.one _) ∙ ap (after_front c.loop-list.list) (sym more) ∙ c.loop-list.invariant)
+pub loop-row-preserved : goal.loop-row-preserved
+loop-row-preserved c =
+    let more = more_items literal_in literal_keeps (bare c.loop-row.rest.now) (bare c.in_ok-value.after.now) (bare c.in-Ok.more.now) c.in_ok-value.value c.in_ok-value.ensures c.in-Ok.ensures in
+    rw c.in_ok-push.ensures.ok (sym (after_one c.loop-row.row c.in_ok-value.value _) ∙ ap (after_front c.loop-row.row) (sym more) ∙ c.loop-row.invariant)
 
 pub returns-in-Err : goal.returns-in-Err
 returns-in-Err c =
-    let all = last_item literal_in literal_keeps (bare c.loop-list.rest.now) (bare c.in_ok-one.behind.now) c.in_ok-one.one c.in_ok-one.ensures c.in-Err.ensures in
-    rw c.in_ok-push.ensures.ok (sym c.loop-list.invariant ∙ ap (after_front c.loop-list.list) all)
+    let all = last_item literal_in literal_keeps (bare c.loop-row.rest.now) (bare c.in_ok-value.after.now) c.in_ok-value.value c.in_ok-value.ensures c.in-Err.ensures in
+    rw c.in_ok-push.ensures.ok (sym c.loop-row.invariant ∙ ap (after_front c.loop-row.row) all)
