@@ -43,11 +43,8 @@ pub fn is_end(tokens: &[Placed]) -> bool
         Ok(rest) => rest,
         Err(_) => tokens,
     };
-    matches!(
-        rest,
-        [Placed {
-            token: Token::End,
-            ..
-        }]
-    )
+    match rest {
+        [last] => matches!(last.token, Token::End),
+        _ => false,
+    }
 }
