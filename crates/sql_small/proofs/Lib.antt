@@ -1,3 +1,4 @@
-pub mod SmallLiterals
+pub mod SmallForms
+pub mod SmallItems
+pub mod SmallLists
 pub mod SmallReading
-pub mod SmallTokens

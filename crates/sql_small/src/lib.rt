@@ -1,6 +1,13 @@
 //! The small reader of lines, until the whole grammar is read.
 #![tactic(auto)]
 
+mod forms;
+mod items;
+mod marks;
+mod miss;
 mod small;
 
 pub use small::{a_text_reads_once, read};
+
+#[cfg(test)]
+mod tests;

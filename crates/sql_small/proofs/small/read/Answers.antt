@@ -1,8 +1,9 @@
-use Rattle.std.proofs.Common.{subst, sym}
-use Rattle.std.proofs.lemmas.Result.{IfOk-weaker}
-use Rattle.sql_small.proofs.SmallReading.{IsReading, found_in_reads}
+use Rattle.std.proofs.Common.{None, Some}
+use Rattle.sql_small.proofs.SmallReading.{found_is}
 use Rattle.sql_small.proofs.small.read.Goals as goal
 
-pub returns : goal.returns
-returns c =
-    IfOk-weaker c.found_in.result _ _ (λ found e. subst (IsReading c.args.line.now) (sym e) (found_in_reads c.args.line.now)) c.found_in.ensures
+pub returns-in-Ok : goal.returns-in-Ok
+returns-in-Ok c = found_is c.args.line.now (Some c.in-Ok.stmt) c.in-Ok.ensures
+
+pub returns-in-Err-NoForm : goal.returns-in-Err-NoForm
+returns-in-Err-NoForm c = found_is c.args.line.now None (c.in-Err-NoForm.ensures c.in-Err-NoForm.field-0-is)
