@@ -13,7 +13,7 @@ use Rattle.sql_base.specs.declared.values.Value.TheVariants.{Null}
 use Rattle.sql_base.specs.Fit.{fits_columns, has_type, is_integer, row_fits}
 use Rattle.sql_base.specs.Outcome.{and_then, every}
 use Rattle.mig_lens.specs.declared.columns.Cell.{Cell}
-use Rattle.mig_lens.specs.declared.columns.Cell.TheVariants.{Carry, Make, Still}
+use Rattle.mig_lens.specs.declared.columns.Cell.TheVariants.{Carry}
 use Rattle.mig_lens.specs.Lens.{backward, carries, cell_fits, cells_fit, forward, is_carried_from, is_of_type, made, outcomes, value_before}
 use Rattle.mig_lens.proofs.MadeHalves.{and_then_ok, backward_carries, both, forward_carries}
 use Rattle.trigger_pair.specs.declared.pairs.Pair.{Pair}

@@ -1,5 +1,5 @@
 -- What the two views select of a row that was stored from two halves, whatever the halves are.
-use Rattle.std.proofs.Common.{◌≡◌, ◌∙◌, ◌<◌, ℕ, zero, suc, ◌+◌, ◌-◌, List, [], ◌∷◌, ◌++◌, Bool, true, false, ◌&&◌, Option, Some, None, length, map, take, add-zero, append_assoc, length-append, ap, refl, sym, subst, arith}
+use Rattle.std.proofs.Common.{◌≡◌, ◌∙◌, ◌<◌, ℕ, suc, ◌+◌, ◌-◌, List, [], ◌∷◌, ◌++◌, Bool, true, false, ◌&&◌, Some, length, map, take, add-zero, append_assoc, length-append, ap, refl, sym, subst, arith}
 use Rattle.std.specs.Prelude.{slice_get, slice_index_or}
 use Rattle.std.proofs.lemmas.List.{get_or-append-add, get_or_append_left, length-map}
 use Rattle.std.proofs.Math.Seq.{take-append_seam}
@@ -11,7 +11,7 @@ use Rattle.mig_lens.specs.declared.columns.Cell.TheVariants.{Carry, Make, Still}
 use Rattle.mig_lens.specs.Layout.{layout, mark_place, place_of, shadows}
 use Rattle.trigger_pair.specs.declared.pairs.Pair.{Pair}
 use Rattle.trigger_pair.specs.Laws.{Holds, IsPair}
-use Rattle.trigger_pair.specs.Stored.{is_marked, is_true, last_value, mark_value, new_view, old_view, places, shadow_values, stored_row}
+use Rattle.trigger_pair.specs.Stored.{is_true, last_value, mark_value, new_view, places, shadow_values, stored_row}
 
 -- Each new column that carries an old one has its value, and the old half has that place.
 pub record Agree (cells : List Cell) (old new : List Value) : Type 0 where
