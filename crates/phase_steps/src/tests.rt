@@ -1,7 +1,7 @@
 //! The life of stored rows, against what the rules say of two migrations.
 use crate::{leaving_row, restore, trimmed, trimmed_view};
 use mig_lens::{Cell, Lens, Side, layout};
-use sql_base::{Column, Copying, Expr, List, Name, NoMemory, Shape, SqlText, Ty, Value};
+use sql_base::{Column, Copying, EvalFault, Expr, List, Name, NoMemory, Shape, SqlText, Ty, Value};
 use std::alloc::Global;
 use std::test::Fail;
 use trigger_pair::{Pair, begun, fill, fire, is_marked, new_view, old_view};
@@ -106,25 +106,58 @@ fn shown(alloc: Global, values: &[Value]) -> Result<String, Fail> {
     Ok(all)
 }
 
+/// What the views select of a stored row, by a word.
+fn seen(alloc: Global, pair: &Pair, word: &str, stored: &[Value]) -> Result<List<Value>, NoMemory> {
+    match word {
+        "old view" => old_view(alloc, pair, stored),
+        "trimmed view" => trimmed_view(alloc, &pair.lens, stored),
+        _ => new_view(alloc, pair, stored),
+    }
+}
+
+/// What is stored of a row that is written through a side, over nothing, or that is filled.
+fn stored(
+    alloc: Global,
+    pair: &Pair,
+    word: &str,
+    half: &[Value],
+) -> Result<List<Value>, EvalFault> {
+    match word {
+        "filled" => fill(alloc, pair, half),
+        "written old" => fire(alloc, pair, Side::Old, half, None),
+        _ => fire(alloc, pair, Side::New, half, None),
+    }
+}
+
+/// The row after a step, by a word.
+fn stepped(alloc: Global, pair: &Pair, word: &str, row: &[Value]) -> Result<List<Value>, NoMemory> {
+    let (old, new, lens) = (&pair.old, &pair.new, &pair.lens);
+    match word {
+        "START" => restore(alloc, 0, old, new, lens, row),
+        "C2" => restore(alloc, 2, old, new, lens, row),
+        "C3" => restore(alloc, 3, old, new, lens, row),
+        "B2" => restore(alloc, 5, old, new, lens, row),
+        "begun" => begun(alloc, pair, row),
+        "trimmed" => trimmed(alloc, lens, row),
+        _ => leaving_row(alloc, lens, row),
+    }
+}
+
 /// What a word makes of a row of this pair.
 fn after(alloc: Global, pair: &Pair, word: &str, row: &[Value]) -> Result<List<Value>, Fail> {
-    let (old, new, lens) = (&pair.old, &pair.new, &pair.lens);
-    let made = match word {
-        "begun" => begun(alloc, pair, row)?,
-        "old view" => old_view(alloc, pair, row)?,
-        "new view" => new_view(alloc, pair, row)?,
-        "filled" => fill(alloc, pair, row)?,
-        "written old" => fire(alloc, pair, Side::Old, row, None)?,
-        "written new" => fire(alloc, pair, Side::New, row, None)?,
-        "written late" => leaving_row(alloc, lens, row)?,
-        "trimmed" => trimmed(alloc, lens, row)?,
-        "trimmed view" => trimmed_view(alloc, lens, row)?,
-        "START" => restore(alloc, 0, old, new, lens, row)?,
-        "C2" => restore(alloc, 2, old, new, lens, row)?,
-        "C3" => restore(alloc, 3, old, new, lens, row)?,
-        _ => restore(alloc, 5, old, new, lens, row)?,
-    };
-    Ok(made)
+    if word.ends_with("view") {
+        return Ok(seen(alloc, pair, word, row)?);
+    }
+    match word {
+        "filled" | "written old" | "written new" => Ok(stored(alloc, pair, word, row)?),
+        _ => Ok(stepped(alloc, pair, word, row)?),
+    }
+}
+
+fn shown_after(alloc: Global, pair: &Pair, word: &str, values: &str) -> Result<String, Fail> {
+    let row = row(alloc, values)?;
+    let made = after(alloc, pair, word, row.as_slice())?;
+    shown(alloc, made.as_slice())
 }
 
 /// A column `age` is added, which `up` makes 0.
@@ -156,51 +189,68 @@ const ALTERED: &[(&str, &str, &str)] = &[
     ("B2", "1 5 6 7 false", "1 5 6"),
 ];
 
+fn added(alloc: Global) -> Result<Pair, Fail> {
+    pair(alloc, "id name", "id name age", "0 1 #0", "0 1")
+}
+
 #[test]
-fn rows_are_stored_as_the_rules_say(rt: HostRuntime) -> Result<(), Fail> {
+fn an_added_column_is_stored_beside_the_old_ones(rt: HostRuntime) -> Result<(), Fail> {
     let alloc = rt.alloc();
-    let added = pair(alloc, "id name", "id name age", "0 1 #0", "0 1")?;
+    let added = added(alloc)?;
     for (word, values, wanted) in ADDED {
-        let made = after(alloc, &added, word, row(alloc, values)?.as_slice())?;
-        let made = shown(alloc, made.as_slice())?;
-        assert!(rt; made.as_str() == *wanted, "{word}: {made}");
-    }
-    let altered = pair(alloc, "id a b", "id x b", "0 =a 2", "0 =x 2")?.copy(alloc)?;
-    for (word, values, wanted) in ALTERED {
-        let made = after(alloc, &altered, word, row(alloc, values)?.as_slice())?;
-        let made = shown(alloc, made.as_slice())?;
+        let made = shown_after(alloc, &added, word, values)?;
         assert!(rt; made.as_str() == *wanted, "{word}: {made}");
     }
     Ok(())
 }
 
-/// The row after a write over a stored one, and whether it was marked.
-fn over(
+#[test]
+fn a_column_that_is_made_anew_leaves_in_order(rt: HostRuntime) -> Result<(), Fail> {
+    let alloc = rt.alloc();
+    let altered = pair(alloc, "id a b", "id x b", "0 =a 2", "0 =x 2")?;
+    for (word, values, wanted) in ALTERED {
+        let made = shown_after(alloc, &altered, word, values)?;
+        assert!(rt; made.as_str() == *wanted, "{word}: {made}");
+    }
+    Ok(())
+}
+
+/// The row after a write over a stored one, with `!` in front where that was marked.
+fn shown_over(
     alloc: Global,
     pair: &Pair,
     side: Side,
     half: &str,
     stored: &str,
-) -> Result<(String, bool), Fail> {
+) -> Result<String, Fail> {
     let half = row(alloc, half)?;
     let stored = row(alloc, stored)?;
     let made = fire(alloc, pair, side, half.as_slice(), Some(stored.as_slice()))?;
-    Ok((
-        shown(alloc, made.as_slice())?,
-        is_marked(pair, stored.as_slice()),
-    ))
+    let words = shown(alloc, made.as_slice())?;
+    let mark = if is_marked(pair, stored.as_slice()) {
+        "!"
+    } else {
+        ""
+    };
+    Ok(format!(in alloc; "{mark}{words}")?)
 }
 
 #[test]
-fn writes_go_over_stored_rows(rt: HostRuntime) -> Result<(), Fail> {
+fn a_write_goes_over_a_marked_row(rt: HostRuntime) -> Result<(), Fail> {
     let alloc = rt.alloc();
-    let made = pair(alloc, "id name", "id name age", "0 1 #0", "0 1")?;
-    let (stored, marked) = over(alloc, &made, Side::Old, "1 b", "1 a NULL true")?;
-    assert!(rt; stored.as_str() == "1 b 0 false" && marked, "{stored}");
-    let (stored, marked) = over(alloc, &made, Side::New, "1 c 40", "1 a 0 false")?;
-    assert!(rt; stored.as_str() == "1 c 40 false" && !marked, "{stored}");
+    let added = added(alloc)?.copy(alloc)?;
+    let old = shown_over(alloc, &added, Side::Old, "1 b", "1 a NULL true")?;
+    assert!(rt; old.as_str() == "!1 b 0 false", "{old}");
+    let new = shown_over(alloc, &added, Side::New, "1 c 40", "1 a 0 false")?;
+    assert!(rt; new.as_str() == "1 c 40 false", "{new}");
+    Ok(())
+}
+
+#[test]
+fn a_column_without_up_keeps_its_value(rt: HostRuntime) -> Result<(), Fail> {
+    let alloc = rt.alloc();
     let still = pair(alloc, "id name", "id name age", "0 1 !5", "0 1")?;
-    let (stored, marked) = over(alloc, &still, Side::Old, "1 b", "1 a 9")?;
-    assert!(rt; stored.as_str() == "1 b 9" && !marked, "{stored}");
+    let kept = shown_over(alloc, &still, Side::Old, "1 b", "1 a 9")?;
+    assert!(rt; kept.as_str() == "1 b 9", "{kept}");
     Ok(())
 }
