@@ -1,5 +1,5 @@
 -- Completing a migration changes nothing that the new version shows.
-use Rattle.std.proofs.Common.{◌≡◌, ◌∙◌, ◌<◌, ◌≤◌, ℕ, zero, suc, ◌+◌, List, [], ◌∷◌, ◌++◌, Option, Some, length, map, take, drop, add-zero, length-append, ap, refl, sym, subst, arith}
+use Rattle.std.proofs.Common.{◌≡◌, ◌∙◌, ◌<◌, ◌≤◌, ℕ, zero, suc, ◌+◌, List, [], ◌∷◌, ◌++◌, Some, length, map, take, drop, add-zero, length-append, ap, refl, sym, arith}
 use Rattle.std.specs.Prelude.{filter, slice_get, slice_index_or}
 use Rattle.std.proofs.lemmas.List.{get_or-append-add, get_or-drop, get_or-take, length-map}
 use Rattle.sql_base.specs.declared.values.Value.{Value}
@@ -10,7 +10,7 @@ use Rattle.mig_lens.specs.Layout.{layout, mark_place, place_of, shadows}
 use Rattle.mig_lens.specs.Lens.{is_carry}
 use Rattle.trigger_pair.specs.declared.pairs.Pair.{Pair}
 use Rattle.trigger_pair.specs.Laws.{IsPair}
-use Rattle.trigger_pair.specs.Stored.{new_places, places}
+use Rattle.trigger_pair.specs.Stored.{places}
 use Rattle.trigger_pair.proofs.Halves.{carry_carries, old_long}
 use Rattle.phase_steps.specs.Laws.{CompletedRowsShow, RolledBackRowsShow, TrimmingKeepsView}
 use Rattle.phase_steps.specs.Rows.{carried_before, carried_values, is_shadow, shadows_in, trimmed, trimmed_places}

@@ -9,8 +9,7 @@ use Rattle.mig_lens.specs.declared.columns.Cell.{Cell}
 use Rattle.mig_lens.specs.declared.columns.Cell.TheVariants.{Carry, Make, Still}
 use Rattle.mig_lens.specs.Layout.{has_mark}
 use Rattle.mig_lens.specs.Lens.{carries, is_carried_from}
-use Rattle.trigger_pair.specs.declared.pairs.Pair.{Pair}
-use Rattle.trigger_pair.specs.Laws.{Holds, IsPair}
+use Rattle.trigger_pair.specs.Laws.{Holds}
 use Rattle.trigger_pair.specs.Stored.{mark_value, shadow_values, stored_row}
 use Rattle.trigger_pair.proofs.Halves.{carry_carries, old_long, pair_long, pair_within, row_long}
 use Rattle.trigger_pair.proofs.Places.{Agree, holds}

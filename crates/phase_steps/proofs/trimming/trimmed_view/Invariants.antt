@@ -1,7 +1,6 @@
 use Rattle.std.proofs.Common.{◌≡◌, ◌≤◌, ◌+◌, ◌++◌, drop, length, map}
-use Rattle.std.specs.Prelude.{filter, slice_index_or}
+use Rattle.std.specs.Prelude.{slice_index_or}
 use Rattle.sql_base.specs.declared.values.Value.TheVariants.{Null}
-use Rattle.mig_lens.specs.Lens.{is_carry}
 use Rattle.phase_steps.specs.Rows as spec
 use Rattle.phase_steps.proofs.trimming.trimmed_view.Given as goal
 
