@@ -20,4 +20,6 @@ pub use parse::parse_expr;
 pub use stmts::parse_stmt;
 
 #[cfg(test)]
+mod stmt_tests;
+#[cfg(test)]
 mod tests;
