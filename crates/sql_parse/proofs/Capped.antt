@@ -67,7 +67,7 @@ parts_capped most form x d = by_test (nat_lt d most) refl
     by_test false e = let big : most ≤ d = omega (arith, leb-false (suc d) most e) in rw (lt-leb (d + 1) most (omega arith)) (deep e (nat_le d most))
 
 -- The greatest of two depths is within the limit where both are.
-max_within : (most d j : ℕ) → nat_le (max d j) most ≡ (if nat_le d most then nat_le j most else false)
+pub max_within : (most d j : ℕ) → nat_le (max d j) most ≡ (if nat_le d most then nat_le j most else false)
 max_within most d j = by_test (nat_le d most) refl (nat_le j most) refl
   where
     by_test : (t : Bool) → nat_le d most ≡ t → (u : Bool) → nat_le j most ≡ u → nat_le (max d j) most ≡ (if t then u else false)

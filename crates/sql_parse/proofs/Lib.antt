@@ -1,7 +1,14 @@
 pub mod Capped
 pub mod Complete
+pub mod Exprs
 pub mod Grown
+pub mod Kept
 pub mod Returned
+pub mod Reversed
+pub mod Runs
 pub mod Sound
+pub mod Standing
+pub mod Statements
+pub mod Through
 pub mod Told
 pub mod Whole

@@ -1,5 +1,5 @@
 -- The canonical text of a tree reads as that tree, and each tree that a text reads as has one.
-use Rattle.std.proofs.Common.{◌≡◌, ℕ, suc, zero, ◌+◌, ◌<◌, ◌≤◌, ◌^◌, List, [], ◌∷◌, ◌++◌, Bool, true, false, if◌then◌else◌, Option, Some, None, pos, negsuc, neg_ℤ, ℤ, refl, sym, ap, ◌∙◌, subst, arith, append_assoc, append-nil, map, length, length-append}
+use Rattle.std.proofs.Common.{◌≡◌, ℕ, suc, zero, ◌≤◌, ◌^◌, List, [], ◌∷◌, ◌++◌, Bool, true, false, if◌then◌else◌, Some, pos, negsuc, neg_ℤ, refl, sym, ap, ◌∙◌, subst, arith, append_assoc, append-nil, map, length, length-append}
 use Rattle.std.specs.List.{flat_map, AllByRecursion}
 use Rattle.sql_base.specs.declared.values.Value.{Value}
 use Rattle.sql_base.specs.declared.values.Value.TheVariants as v

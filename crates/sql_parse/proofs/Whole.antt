@@ -19,7 +19,7 @@ use Rattle.sql_parse.proofs.Sound.{LeadsIf, run_leads, viable, none}
 abbrev pub start : Option State
 start = Some (q.Want [])
 
-run_reads : (ts : List Token) (a : Part) → run 64 start ts ≡ Some (q.Done a) → (b : Expr) × IsText ts b × (a ≡ cap 64 b)
+pub run_reads : (ts : List Token) (a : Part) → run 64 start ts ≡ Some (q.Done a) → (b : Expr) × IsText ts b × (a ≡ cap 64 b)
 run_reads ts a e = let P : Option State → Type 0 = λ r. LeadsIf r ts in subst P e (run_leads start ts [] none)
 
 pub run_viable : (ts : List Token) (r : State) → run 64 start ts ≡ Some r → Viable ts

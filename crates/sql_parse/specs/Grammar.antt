@@ -157,47 +157,45 @@ pub record IsText (ts : List Token) (a : Expr) : Type 0 where
 
 -- ---- statements
 
--- a name, plain or quoted
-abbrev pub Names : Token → List ℕ → Type 0
-Names x name = (x ≡ t.Name name) ⊎ (x ≡ t.Quoted name)
+-- the name that a token is, plain or quoted
+abbrev pub name_of : Token → Option (List ℕ)
+name_of (t.Name name) = Some name
+name_of (t.Quoted name) = Some name
+name_of _ = None
 
--- names with commas between them
-pub data ReadsNames : List Token → List (List ℕ) → Type 0 where
-  first_name : {x : Token} {name : List ℕ} → Names x name → ReadsNames (x ∷ []) (name ∷ [])
-  next_name : {xs : List Token} {names : List (List ℕ)} {x : Token} {name : List ℕ} → ReadsNames xs names → Names x name →
-      ReadsNames (xs ++ t.Sign s.Comma ∷ x ∷ []) (names ++ name ∷ [])
+-- one of a kind or more, with commas between them
+pub data Listed {X : Type 0} (ReadsOne : List Token → X → Type 0) : List Token → List X → Type 0 where
+  first : {xs : List Token} {a : X} → ReadsOne xs a → Listed ReadsOne xs (a ∷ [])
+  next : {xs ys : List Token} {list : List X} {a : X} → Listed ReadsOne xs list → ReadsOne ys a → Listed ReadsOne (xs ++ t.Sign s.Comma ∷ ys) (list ++ a ∷ [])
 
--- tuples with commas between them
-pub data ReadsTuples : List Token → List (List Expr) → Type 0 where
-  first_tuple : {xs : List Token} {row : List Expr} → ReadsAll xs row → ReadsTuples (t.Sign s.Open ∷ (xs ++ t.Sign s.Close ∷ [])) (row ∷ [])
-  next_tuple : {xs ys : List Token} {rows : List (List Expr)} {row : List Expr} → ReadsTuples xs rows → ReadsAll ys row →
-      ReadsTuples (xs ++ t.Sign s.Comma ∷ t.Sign s.Open ∷ (ys ++ t.Sign s.Close ∷ [])) (rows ++ row ∷ [])
+pub data ReadsName : List Token → List ℕ → Type 0 where
+  a_name : (x : Token) {name : List ℕ} → name_of x ≡ Some name → ReadsName (x ∷ []) name
 
--- assignments with commas between them
-pub data ReadsSets : List Token → List (List ℕ × Expr) → Type 0 where
-  first_set : {x : Token} {name : List ℕ} {xs : List Token} {a : Expr} → Names x name → Reads 0 xs a → ReadsSets (x ∷ t.Sign s.Eq ∷ xs) ((name, a) ∷ [])
-  next_set : {xs ys : List Token} {sets : List (List ℕ × Expr)} {x : Token} {name : List ℕ} {a : Expr} → ReadsSets xs sets → Names x name → Reads 0 ys a →
-      ReadsSets (xs ++ t.Sign s.Comma ∷ x ∷ t.Sign s.Eq ∷ ys) (sets ++ (name, a) ∷ [])
+pub data ReadsTuple : List Token → List Expr → Type 0 where
+  a_tuple : {xs : List Token} {row : List Expr} → Listed (Reads 0) xs row → ReadsTuple (t.Sign s.Open ∷ (xs ++ t.Sign s.Close ∷ [])) row
+
+pub data ReadsSet : List Token → List ℕ × Expr → Type 0 where
+  a_set : (x : Token) {name : List ℕ} {xs : List Token} {a : Expr} → name_of x ≡ Some name → Reads 0 xs a → ReadsSet (x ∷ t.Sign s.Eq ∷ xs) (name, a)
 
 -- WHERE, or nothing
 pub data ReadsFilter : List Token → Option Expr → Type 0 where
   no_filter : ReadsFilter [] None
-  filter : {xs : List Token} {a : Expr} → Reads 0 xs a → ReadsFilter (t.Key k.Where ∷ xs) (Some a)
+  a_filter : {xs : List Token} {a : Expr} → Reads 0 xs a → ReadsFilter (t.Key k.Where ∷ xs) (Some a)
 
 pub data ReadsItems : List Token → Items → Type 0 where
   all_items : ReadsItems (t.Sign s.Star ∷ []) items.All
-  listed : {xs : List Token} {list : List Expr} → ReadsAll xs list → ReadsItems xs (items.Listed list)
+  listed : {xs : List Token} {list : List Expr} → Listed (Reads 0) xs list → ReadsItems xs (items.Listed list)
 
 pub data ReadsStmt : List Token → Stmt → Type 0 where
-  insert : {x : Token} {table : List ℕ} {xs ys : List Token} {columns : List (List ℕ)} {rows : List (List Expr)} → Names x table → ReadsNames xs columns → ReadsTuples ys rows →
+  insert : (x : Token) {table : List ℕ} {xs ys : List Token} {columns : List (List ℕ)} {rows : List (List Expr)} → name_of x ≡ Some table → Listed ReadsName xs columns → Listed ReadsTuple ys rows →
       ReadsStmt (t.Key k.Insert ∷ t.Key k.Into ∷ x ∷ t.Sign s.Open ∷ (xs ++ t.Sign s.Close ∷ t.Key k.Values ∷ ys)) (stmt.Insert table columns rows)
-  update : {x : Token} {table : List ℕ} {xs ys : List Token} {sets : List (List ℕ × Expr)} {where_ : Option Expr} → Names x table → ReadsSets xs sets → ReadsFilter ys where_ →
-      ReadsStmt (t.Key k.Update ∷ x ∷ t.Key k.Set ∷ (xs ++ ys)) (stmt.Update table sets where_)
-  delete : {x : Token} {table : List ℕ} {xs : List Token} {where_ : Option Expr} → Names x table → ReadsFilter xs where_ →
-      ReadsStmt (t.Key k.Delete ∷ t.Key k.From ∷ x ∷ xs) (stmt.Delete table where_)
-  select : {x : Token} {table : List ℕ} {xs ys : List Token} {list : Items} {where_ : Option Expr} → ReadsItems xs list → Names x table → ReadsFilter ys where_ →
-      ReadsStmt (t.Key k.Select ∷ (xs ++ t.Key k.From ∷ x ∷ ys)) (stmt.Query table list where_)
-  path : {x : Token} {xs : List Token} {names : List (List ℕ)} → Names x (codes "search_path") → ReadsNames xs names →
+  update : (x : Token) {table : List ℕ} {xs ys : List Token} {sets : List (List ℕ × Expr)} {cond : Option Expr} → name_of x ≡ Some table → Listed ReadsSet xs sets → ReadsFilter ys cond →
+      ReadsStmt (t.Key k.Update ∷ x ∷ t.Key k.Set ∷ (xs ++ ys)) (stmt.Update table sets cond)
+  delete : (x : Token) {table : List ℕ} {xs : List Token} {cond : Option Expr} → name_of x ≡ Some table → ReadsFilter xs cond →
+      ReadsStmt (t.Key k.Delete ∷ t.Key k.From ∷ x ∷ xs) (stmt.Delete table cond)
+  select : (x : Token) {table : List ℕ} {xs ys : List Token} {list : Items} {cond : Option Expr} → ReadsItems xs list → name_of x ≡ Some table → ReadsFilter ys cond →
+      ReadsStmt (t.Key k.Select ∷ (xs ++ t.Key k.From ∷ x ∷ ys)) (stmt.Query table list cond)
+  path : (x : Token) {xs : List Token} {names : List (List ℕ)} → name_of x ≡ Some (codes "search_path") → Listed ReadsName xs names →
       ReadsStmt (t.Key k.Set ∷ x ∷ t.Key k.To ∷ xs) (stmt.SetPath names)
 
 -- a whole text: a statement, one semicolon or none, and the end

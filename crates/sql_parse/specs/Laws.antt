@@ -11,11 +11,16 @@ use Rattle.sql_text.specs.Laws.{HasText}
 use Rattle.sql_text.specs.Lexing.{tokens_of}
 use Rattle.sql_text.specs.Printing.{spelled}
 use Rattle.sql_base.specs.declared.exprs.Expr.{Expr}
-use Rattle.sql_parse.specs.Grammar.{IsText}
+use Rattle.sql_base.specs.declared.stmts.Stmt.{Stmt}
+use Rattle.sql_parse.specs.Grammar.{IsText, IsStmt}
 
 -- no text has two trees
 abbrev pub OneTree : Type 0
 OneTree = (ts : List Token) (a b : Expr) → IsText ts a → IsText ts b → a ≡ b
+
+-- no text has two statements
+abbrev pub OneStatement : Type 0
+OneStatement = (ts : List Token) (a b : Stmt) → IsStmt ts a → IsStmt ts b → a ≡ b
 
 -- Tokens can be gone through exactly where they can still become a text; gone through to their end they are a text of
 -- the tree that was built, or of one deeper than 64.

@@ -3,4 +3,5 @@ pub mod Grammar
 pub mod Laws
 pub mod Machine
 pub mod Reading
+pub mod Stages
 pub mod Viable

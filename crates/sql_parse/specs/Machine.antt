@@ -1,5 +1,6 @@
 -- The reader's way: a stack of open parts, and one step for each token. Trees deeper than the most are given up.
 use Rattle.std.specs.Prelude.{ℕ, ◌+◌, ◌^◌, List, [], ◌∷◌, ◌++◌, Bool, true, false, ◌==◌, Option, Some, None, pos, neg_ℤ, nat_le, nat_lt, max, length, if◌then◌else◌}
+use Rattle.std.specs.List.{list_all}
 use Rattle.sql_base.specs.declared.values.Value.TheVariants as v
 use Rattle.sql_base.specs.declared.values.Ty.{Ty}
 use Rattle.sql_base.specs.declared.exprs.BinOp.{BinOp}
@@ -33,6 +34,13 @@ hole_of _ = 0
 abbrev pub hole : List Open → ℕ
 hole [] = 0
 hole (f ∷ st) = hole_of f
+
+-- whether nothing but operators is open
+abbrev pub is_inner : Open → Bool
+is_inner f = nat_lt 0 (hole_of f)
+
+abbrev pub is_flat : List Open → Bool
+is_flat st = list_all is_inner st
 
 -- the level of the filled part
 abbrev pub level_of : Open → ℕ

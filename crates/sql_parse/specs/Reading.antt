@@ -1,65 +1,98 @@
 -- What is answered to a text.
-use Rattle.std.specs.Prelude.{◌≡◌, ◌≤◌, ◌<◌, ℕ, List, [], ◌∷◌, ◌++◌, map, Bool, true, false, Some, None, ◌≢◌, Result, Ok, Err, MatchResult, IfOk, IfErr}
-use Rattle.sql_base.specs.Tree.{depth}
+use Rattle.std.specs.Prelude.{◌≡◌, ◌≤◌, ◌<◌, ℕ, List, [], ◌∷◌, ◌++◌, map, max, Bool, true, false, Option, Some, None, ◌≢◌, Result, Ok, Err, MatchResult, IfOk, IfErr}
+use Rattle.sql_base.specs.Tree.{depth, deepest, deepest_of}
 use Rattle.sql_base.specs.declared.exprs.Expr.{Expr}
+use Rattle.sql_base.specs.declared.stmts.Stmt.{Stmt}
+use Rattle.sql_base.specs.declared.stmts.Stmt.TheVariants as stmt
+use Rattle.sql_base.specs.declared.stmts.Items.{Items}
+use Rattle.sql_base.specs.declared.stmts.Items.TheVariants as items
 use Rattle.sql_text.specs.declared.tokens.Placed.{Placed}
 use Rattle.sql_text.specs.declared.tokens.Token.{Token}
 use Rattle.sql_text.specs.declared.tokens.Token.TheVariants as t
+use Rattle.sql_text.specs.Laws.{HasText}
+use Rattle.sql_text.specs.Printing.{spelled}
 use Rattle.sql_parse.specs.declared.faults.ParseFault.{ParseFault}
 use Rattle.sql_parse.specs.declared.faults.ParseFault.TheVariants as fault
 use Rattle.sql_parse.specs.declared.machine.Part.{Part}
 use Rattle.sql_parse.specs.declared.machine.Part.TheVariants.{Whole, Deep}
 use Rattle.sql_parse.specs.declared.machine.State.{State}
 use Rattle.sql_parse.specs.declared.machine.State.TheVariants as q
-use Rattle.sql_text.specs.Laws.{HasText}
-use Rattle.sql_text.specs.Printing.{spelled}
-use Rattle.sql_parse.specs.Grammar.{IsText}
-use Rattle.sql_parse.specs.Machine.{step}
-use Rattle.sql_parse.specs.Viable.{Viable}
+use Rattle.sql_parse.specs.declared.stages.SelectStage.TheVariants as r
+use Rattle.sql_parse.specs.declared.stages.Stage.{Stage}
+use Rattle.sql_parse.specs.declared.stages.Stage.TheVariants as g
+use Rattle.sql_parse.specs.Viable.{CanBe}
 
 -- the tokens without their places
 abbrev pub kinds : List Placed → List Token
 kinds placed = map (λ p. p.token) placed
 
+-- ---- depth
+
+abbrev pub items_depth : Items → ℕ
+items_depth items.All = 0
+items_depth (items.Listed list) = deepest_of list
+
+abbrev pub filter_depth : Option Expr → ℕ
+filter_depth None = 0
+filter_depth (Some a) = depth a
+
+abbrev pub set_depth : List ℕ × Expr → ℕ
+set_depth set = depth set.1
+
+-- the depth of a statement's deepest expression
+abbrev pub stmt_depth : Stmt → ℕ
+stmt_depth (stmt.Insert table columns rows) = deepest (map deepest_of rows)
+stmt_depth (stmt.Update table sets filter) = max (deepest (map set_depth sets)) (filter_depth filter)
+stmt_depth (stmt.Delete table filter) = filter_depth filter
+stmt_depth (stmt.Query table list filter) = max (items_depth list) (filter_depth filter)
+stmt_depth (stmt.SetPath names) = 0
+
+-- ---- answers, for texts of any kind: which tokens are a whole text of which tree, and how deep that is
+
 -- A number stands behind these tokens, and a smaller one would fit there.
-abbrev pub IsWide : List Token → Token → Type 0
-IsWide before token = (n : ℕ) × (token ≡ t.Int n) × Viable (before ++ t.Int 0 ∷ [])
+abbrev pub IsWide : {X : Type 0} → (List Token → X → Type 0) → List Token → Token → Type 0
+IsWide IsWhole before token = (n : ℕ) × (token ≡ t.Int n) × CanBe IsWhole (before ++ t.Int 0 ∷ [])
 
 -- The first token that fits no text: those before it can be completed, and with it they can't. It begins at this byte.
-pub record FirstFault (text : List Placed) (at : ℕ) (wide : Bool) : Type 0 where
+pub record FirstFault {X : Type 0} (IsWhole : List Token → X → Type 0) (text : List Placed) (at : ℕ) (wide : Bool) : Type 0 where
   pub front : List Placed
   pub token : Token
   pub back : List Placed
   pub parts : text ≡ front ++ record { at = at; token = token } ∷ back
-  pub before : Viable (kinds front)
-  pub with_it : Viable (kinds front ++ token ∷ []) → ⊥
-  pub is_wide : wide ≡ true → IsWide (kinds front) token
-  pub not_wide : wide ≡ false → IsWide (kinds front) token → ⊥
+  pub before : CanBe IsWhole (kinds front)
+  pub with_it : CanBe IsWhole (kinds front ++ token ∷ []) → ⊥
+  pub is_wide : wide ≡ true → IsWide IsWhole (kinds front) token
+  pub not_wide : wide ≡ false → IsWide IsWhole (kinds front) token → ⊥
 
 -- When each fault is answered to a text of these tokens.
-abbrev pub Refuses : List Placed → ParseFault → Type 0
-Refuses text (fault.Syntax at) = FirstFault text at false
-Refuses text (fault.Wide at) = FirstFault text at true
-Refuses text fault.Deep = (a : Expr) × IsText (kinds text) a × (64 < depth a)
-Refuses text fault.NoMemory = Unit {0}
+abbrev pub Refuses : {X : Type 0} → (List Token → X → Type 0) → (X → ℕ) → List Placed → ParseFault → Type 0
+Refuses IsWhole deepness text (fault.Syntax at) = FirstFault IsWhole text at false
+Refuses IsWhole deepness text (fault.Wide at) = FirstFault IsWhole text at true
+Refuses {X} IsWhole deepness text fault.Deep = (a : X) × IsWhole (kinds text) a × (64 < deepness a)
+Refuses IsWhole deepness text fault.NoMemory = Unit {0}
 
 -- A tree that is answered is the text's, and not too deep; a fault has its cause.
-abbrev pub Answers : List Placed → Result Expr ParseFault → Type 0
-Answers text result = IfOk result (λ a. IsText (kinds text) a × (depth a ≤ 64)) × IfErr result (λ f. Refuses text f)
+abbrev pub Answers : {X : Type 0} → (List Token → X → Type 0) → (X → ℕ) → List Placed → Result X ParseFault → Type 0
+Answers IsWhole deepness text result = IfOk result (λ a. IsWhole (kinds text) a × (deepness a ≤ 64)) × IfErr result (λ f. Refuses IsWhole deepness text f)
 
 -- Where the text has a tree that isn't too deep, this is the answer, or want of memory.
-abbrev pub AnswersOnly : List Placed → Result Expr ParseFault → Type 0
-AnswersOnly text result = (a : Expr) → IsText (kinds text) a → depth a ≤ 64 → MatchResult result (λ b. b ≡ a) (λ f. f ≡ fault.NoMemory)
+abbrev pub AnswersOnly : {X : Type 0} → (List Token → X → Type 0) → (X → ℕ) → List Placed → Result X ParseFault → Type 0
+AnswersOnly {X} IsWhole deepness text result = (a : X) → IsWhole (kinds text) a → deepness a ≤ 64 → MatchResult result (λ b. b ≡ a) (λ f. f ≡ fault.NoMemory)
 
 -- Where the text is the canonical text of a tree that isn't too deep, this is the answer, or want of memory.
 abbrev pub ReadsAgain : List ℕ → Result Expr ParseFault → Type 0
 ReadsAgain text result = (a : Expr) → HasText a → depth a ≤ 64 → text ≡ spelled a → MatchResult result (λ b. b ≡ a) (λ f. f ≡ fault.NoMemory)
 
--- whether a number may come next
+-- whether a number may come next, in an expression and in a statement
 abbrev pub takes_number : State → Bool
 takes_number (q.Want st) = true
 takes_number (q.Minus st) = true
 takes_number _ = false
+
+abbrev pub takes_number_there : Stage → Bool
+takes_number_there (g.In place state) = takes_number state
+takes_number_there (g.Select r.Word) = true
+takes_number_there _ = false
 
 -- the fault of a token that can't be gone through: where a number may come, and where none may
 abbrev pub fault_of : Bool → Token → ℕ → ParseFault
@@ -70,13 +103,17 @@ fault_of _ _ at = fault.Syntax at
 abbrev pub IsEnded : List Token → Type 0
 IsEnded tokens = (front : List Token) × (tokens ≡ front ++ t.End ∷ [])
 
--- One token more is gone through, or refused with its fault.
-abbrev pub Advances : State → Placed → Result State ParseFault → Type 0
-Advances state placed result =
-    MatchResult result (λ next. step 64 state placed.token ≡ Some next)
-    (λ f. f ≢ fault.NoMemory → (step 64 state placed.token ≡ None) × (f ≡ fault_of (takes_number state) placed.token placed.at))
+-- One token more is gone through, or refused with its fault: by the step of a machine that takes a number or doesn't.
+abbrev pub Advances : {S : Type 0} → (S → Token → Option S) → Bool → S → Placed → Result S ParseFault → Type 0
+Advances step takes state placed result =
+    MatchResult result (λ next. step state placed.token ≡ Some next)
+    (λ f. f ≢ fault.NoMemory → (step state placed.token ≡ None) × (f ≡ fault_of takes placed.token placed.at))
 
--- the tree of a part, or that it was given up
+-- the tree of a part, or that it was given up; and of a statement
 abbrev pub IsTreeOf : Part → Result Expr ParseFault → Type 0
 IsTreeOf (Whole a d) result = result ≡ Ok a
 IsTreeOf Deep result = result ≡ Err fault.Deep
+
+abbrev pub IsStmtOf : Option Stmt → Result Stmt ParseFault → Type 0
+IsStmtOf (Some a) result = result ≡ Ok a
+IsStmtOf None result = result ≡ Err fault.Deep

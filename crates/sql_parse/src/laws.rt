@@ -1,12 +1,17 @@
 //! Laws of the grammar.
 
-ghost use Rattle.sql_parse.specs.Laws.{OneTree, RunsTell, ReadBack, TreesHaveText};
+ghost use Rattle.sql_parse.specs.Laws.{OneTree, OneStatement, RunsTell, ReadBack, TreesHaveText};
 
 use sql_text::{a_text_has_its_tokens, tokens_are_proper};
 
 /// The law that no text has two trees.
 pub fn one_tree()
     ensures { OneTree }
+{}
+
+/// The law that no text has two statements.
+pub fn one_statement()
+    ensures { OneStatement }
 {}
 
 /// The law that what can be gone through can still become a text, and the other way round.

@@ -2,17 +2,24 @@
 #![tactic(auto)]
 
 mod after;
+mod clauses;
 mod faults;
 mod laws;
 mod machine;
 mod parse;
+mod stages;
 mod step;
+mod stmts;
 mod table;
 mod trees;
+mod verbs;
 
 pub use faults::ParseFault;
-pub use laws::{one_tree, read_back, runs_tell, trees_have_text};
+pub use laws::{one_statement, one_tree, read_back, runs_tell, trees_have_text};
 pub use parse::parse_expr;
+pub use stmts::parse_stmt;
 
+#[cfg(test)]
+mod stmt_tests;
 #[cfg(test)]
 mod tests;

@@ -1,6 +1,7 @@
 //! What is kept of a text that was read so far.
 
 ghost use Rattle.std.specs.Prelude.{◌≡◌, [], ◌∷◌, OnOk, MatchOption};
+ghost use Rattle.std.specs.List.{list_all};
 ghost use Rattle.sql_parse.specs.Machine as spec;
 
 use crate::table::{level, right};
@@ -84,6 +85,14 @@ impl Stack {
         self.parts.pop()
     }
 
+    /// Whether nothing but operators is open.
+    #[tactic(auto, using(crate::proofs::Reversed::all_reversed))]
+    pub fn is_flat(&self) -> bool
+        ensures { result ≡ spec.is_flat self.now }
+    {
+        all_inner(self.parts.as_slice())
+    }
+
     /// The loosest level of what may stand in the innermost hole.
     pub fn hole(&self) -> u8
         ensures { result ≡ spec.hole self.now }
@@ -119,6 +128,19 @@ impl Open {
             _ => 11,
         }
     }
+}
+
+// Whether the part is an operator's.
+fn is_inner(part: &Open) -> bool
+    ensures { result ≡ spec.is_inner part.now }
+{
+    part.hole() > 0
+}
+
+fn all_inner(parts: &[Open]) -> bool
+    ensures { result ≡ list_all spec.is_inner parts.now }
+{
+    parts.iter().all(is_inner)
 }
 
 /// An operand of a level, below open parts, the innermost first.

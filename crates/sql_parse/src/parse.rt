@@ -1,4 +1,4 @@
-//! Texts, read to their trees.
+//! Texts of expressions, read to their trees.
 
 ghost use Rattle.std.specs.Prelude.{◌≡◌, ◌≤◌, ◌<◌, ◌^◌, map, length, IfOk, IfErr};
 ghost use Rattle.std.specs.List.{AllByRecursion};
@@ -6,6 +6,7 @@ ghost use Rattle.sql_base.specs.Tree.{depth};
 ghost use Rattle.sql_text.specs.Laws.{HasText};
 ghost use Rattle.sql_text.specs.Lexing.{lexed, tokens_of};
 ghost use Rattle.sql_parse.specs.Grammar.{IsText};
+ghost use Rattle.sql_parse.specs.Machine as machine;
 ghost use Rattle.sql_parse.specs.Reading as spec;
 
 use crate::faults::ParseFault;
@@ -17,7 +18,7 @@ use sql_text::{Placed, Token, lex, places_are_inside, tokens_end};
 use std::alloc::Global;
 
 /// Whether a number may come next.
-fn takes_number(state: &State) -> bool
+pub fn takes_number(state: &State) -> bool
     ensures { result ≡ spec.takes_number state.now }
 {
     match state {
@@ -26,14 +27,14 @@ fn takes_number(state: &State) -> bool
     }
 }
 
-/// The fault of a token that can't be gone through.
-fn fault_of(state: &State, placed: &Placed) -> ParseFault
+/// The fault of a token that can't be gone through, where a number may come or none may.
+pub fn fault_of(takes_number: bool, placed: &Placed) -> ParseFault
     requires { placed.now.at < 2 ^ 32 }
-    ensures { result ≡ spec.fault_of (spec.takes_number state.now) placed.now.token placed.now.at }
+    ensures { result ≡ spec.fault_of takes_number placed.now.token placed.now.at }
 {
     let at = placed.at as u32;
     match placed.token {
-        Token::Int(_) if takes_number(state) => ParseFault::Wide { at },
+        Token::Int(_) if takes_number => ParseFault::Wide { at },
         _ => ParseFault::Syntax { at },
     }
 }
@@ -41,9 +42,9 @@ fn fault_of(state: &State, placed: &Placed) -> ParseFault
 // The state after a token.
 fn advanced(alloc: Global, state: State, placed: &Placed) -> Result<State, ParseFault>
     requires { placed.now.at < 2 ^ 32 }
-    ensures { spec.Advances state placed.now result }
+    ensures { spec.Advances (machine.step 64) (spec.takes_number state) state placed.now result }
 {
-    let fault = fault_of(&state, placed);
+    let fault = fault_of(takes_number(&state), placed);
     match step(alloc, state, &placed.token)? {
         Some(next) => Ok(next),
         None => Err(fault),
@@ -63,7 +64,7 @@ fn tree_of(part: Part) -> Result<Expr, ParseFault>
 fn read_tokens(alloc: Global, tokens: &[Placed]) -> Result<Expr, ParseFault>
     requires ended { spec.IsEnded (spec.kinds tokens.now) }
     requires places { AllByRecursion (λ at. at ≤ 65536) (map (λ p. p.at) tokens.now) }
-    ensures { spec.Answers tokens.now result }
+    ensures { spec.Answers IsText depth tokens.now result }
 {
     let mut state = State::Want(Stack::new(alloc));
     for placed in tokens {
@@ -84,13 +85,13 @@ pub fn parse_expr(alloc: Global, text: &[u8]) -> Result<Expr, ParseFault>
     // What is read is a text of the tree, and not too deep.
     ensures found { IfOk result (λ a. IsText (tokens_of text.now) a × depth a ≤ 64) }
     // A text that reads is read, to its tree, unless memory runs out.
-    ensures only { spec.AnswersOnly (lexed 0 0 text.now) result }
+    ensures only { spec.AnswersOnly IsText depth (lexed 0 0 text.now) result }
     // The tree has a canonical text.
     ensures text { IfOk result (λ a. HasText a) }
     // The canonical text of a tree is read as that tree.
     ensures again { spec.ReadsAgain text.now result }
     // When each fault comes.
-    ensures fault { IfErr result (λ f. spec.Refuses (lexed 0 0 text.now) f) }
+    ensures fault { IfErr result (λ f. spec.Refuses IsText depth (lexed 0 0 text.now) f) }
 {
     tokens_end();
     places_are_inside();

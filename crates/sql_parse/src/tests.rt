@@ -184,7 +184,8 @@ fn read(alloc: Global, text: &[u8]) -> Result<Expr, ParseFault> {
     parse_expr(alloc, text)
 }
 
-fn told(alloc: Global, fault: ParseFault) -> Result<String, Fail> {
+// A fault, in words.
+pub fn told(alloc: Global, fault: ParseFault) -> Result<String, Fail> {
     match fault {
         ParseFault::Syntax { at } => Ok(format!(in alloc; "syntax {at}")?),
         ParseFault::Wide { at } => Ok(format!(in alloc; "wide {at}")?),

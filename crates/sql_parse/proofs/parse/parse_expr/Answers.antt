@@ -3,7 +3,11 @@ use Rattle.std.specs.List.{AllByRecursion}
 use Rattle.sql_text.specs.declared.tokens.Placed.{Placed}
 use Rattle.sql_text.specs.Lexing.{lexed}
 use Rattle.sql_parse.specs.Reading.{kinds, IsEnded, AnswersOnly, Answers}
-use Rattle.sql_parse.proofs.Told.{only, small_places, its_text, again}
+use Rattle.sql_base.specs.Tree.{depth}
+use Rattle.sql_parse.specs.Grammar.{IsText}
+use Rattle.sql_parse.proofs.Complete.{one_tree}
+use Rattle.sql_parse.proofs.Exprs.{its_text, again}
+use Rattle.sql_parse.proofs.Told.{only, small_places}
 use Rattle.sql_parse.proofs.parse.parse_expr.Goals as goal
 
 pub read_tokens-requires-clause-ended : goal.read_tokens-requires-clause-ended
@@ -20,17 +24,17 @@ read_tokens-requires-clause-places c =
 pub returns-clause-only : goal.returns-clause-only
 returns-clause-only c =
     let is : c.as_slice.result.now ≡ lexed 0 0 c.args.text.now = c.as_slice.ensures ∙ c.in_ok-tokens.ensures in
-    let P : List Placed → Type 0 = λ ps. AnswersOnly ps c.read_tokens.result in
-    subst P is (only c.as_slice.result.now c.read_tokens.result c.read_tokens.ensures)
+    let P : List Placed → Type 0 = λ ps. AnswersOnly IsText depth ps c.read_tokens.result in
+    subst P is (only one_tree depth c.as_slice.result.now c.read_tokens.result c.read_tokens.ensures)
 
 pub returns-clause-text : goal.returns-clause-text
 returns-clause-text c =
     let is : c.as_slice.result.now ≡ lexed 0 0 c.args.text.now = c.as_slice.ensures ∙ c.in_ok-tokens.ensures in
-    let P : List Placed → Type 0 = λ ps. Answers ps c.read_tokens.result in
+    let P : List Placed → Type 0 = λ ps. Answers IsText depth ps c.read_tokens.result in
     its_text c.args.text.now c.read_tokens.result c.trees_have_text.ensures (subst P is c.read_tokens.ensures)
 
 pub returns-clause-again : goal.returns-clause-again
 returns-clause-again c =
     let is : c.as_slice.result.now ≡ lexed 0 0 c.args.text.now = c.as_slice.ensures ∙ c.in_ok-tokens.ensures in
-    let P : List Placed → Type 0 = λ ps. Answers ps c.read_tokens.result in
+    let P : List Placed → Type 0 = λ ps. Answers IsText depth ps c.read_tokens.result in
     again c.args.text.now c.read_tokens.result c.read_back.ensures (subst P is c.read_tokens.ensures)

@@ -1,6 +1,10 @@
 use Rattle.std.proofs.Common.{◌∙◌, ap, Err}
 use Rattle.std.proofs.lemmas.Result.{err_from_is_err_and}
-use Rattle.sql_parse.proofs.Told.{item_fits, item_more, item_refused, is_done, answered}
+use Rattle.sql_base.specs.Tree.{depth}
+use Rattle.sql_parse.specs.Machine.{step}
+use Rattle.sql_parse.proofs.Exprs.{exprs_tell, is_done, answered}
+use Rattle.sql_parse.proofs.Told.{item_fits, item_more, item_refused}
+use Rattle.sql_parse.proofs.Whole.{start}
 use Rattle.sql_parse.proofs.parse.read_tokens.Goals as goal
 
 pub advanced-requires : goal.advanced-requires
@@ -9,11 +13,11 @@ advanced-requires c = item_fits c.args.tokens.now c.loop-placed.placed-index c.p
 pub returns-in_err-state : goal.returns-in_err-state
 returns-in_err-state c =
     let p = err_from_is_err_and c.from_residual.result c.from_residual.ensures.1 in
-    item_refused c.args.tokens.now c.loop-placed.placed-index c.placed-item.result c.loop-placed.state c.from_residual.result c.in_err-state.field-0.0 (p.1 ∙ ap Err p.2) c.loop-placed-test.true c.loop-placed.invariant c.placed-item.is c.in_err-state.ensures
+    item_refused exprs_tell depth c.args.tokens.now c.loop-placed.placed-index c.placed-item.result c.loop-placed.state c.from_residual.result c.in_err-state.field-0.0 (p.1 ∙ ap Err p.2) c.loop-placed-test.true c.loop-placed.invariant c.placed-item.is c.in_err-state.ensures
 
 pub loop-placed-preserved : goal.loop-placed-preserved
 loop-placed-preserved c =
-    item_more c.args.tokens.now c.loop-placed.placed-index c.placed-item.result c.loop-placed.state c.in_ok-state.state c.loop-placed-test.true c.loop-placed.invariant c.placed-item.is c.in_ok-state.ensures
+    item_more (step 64) start c.args.tokens.now c.loop-placed.placed-index c.placed-item.result c.loop-placed.state c.in_ok-state.state c.loop-placed-test.true c.loop-placed.invariant c.placed-item.is c.in_ok-state.ensures
 
 pub unreachable-requires : goal.unreachable-requires
 unreachable-requires c = let d = is_done c.args.tokens.now c.loop-placed.placed-index c.loop-placed.state c.requires.ended c.loop-placed-test.false c.loop-placed.invariant in c.in_default.not-Done d.0 d.1

@@ -1,0 +1,26 @@
+use Rattle.std.proofs.Common.{◌≡◌, ◌≤◌, ◌∙◌, map, subst, sym, List}
+use Rattle.std.specs.List.{AllByRecursion}
+use Rattle.sql_text.specs.declared.tokens.Placed.{Placed}
+use Rattle.sql_text.specs.Lexing.{lexed}
+use Rattle.sql_parse.specs.Grammar.{IsStmt}
+use Rattle.sql_parse.specs.Reading.{kinds, IsEnded, AnswersOnly, stmt_depth}
+use Rattle.sql_parse.proofs.Through.{one_statement}
+use Rattle.sql_parse.proofs.Told.{only, small_places}
+use Rattle.sql_parse.proofs.stmts.parse_stmt.Goals as goal
+
+pub read_tokens-requires-clause-ended : goal.read_tokens-requires-clause-ended
+read_tokens-requires-clause-ended c =
+    let is : c.as_slice.result.now ≡ lexed 0 0 c.args.text.now = c.as_slice.ensures ∙ c.in_ok-tokens.ensures in
+    let P : List Placed → Type 0 = λ ps. IsEnded (kinds ps) in subst P (sym is) (c.tokens_end.ensures c.args.text.now)
+
+pub read_tokens-requires-clause-places : goal.read_tokens-requires-clause-places
+read_tokens-requires-clause-places c =
+    let is : c.as_slice.result.now ≡ lexed 0 0 c.args.text.now = c.as_slice.ensures ∙ c.in_ok-tokens.ensures in
+    let P : List Placed → Type 0 = λ ps. AllByRecursion (λ at. at ≤ 65536) (map (λ p. p.at) ps) in
+    subst P (sym is) (small_places (map (λ p. p.at) (lexed 0 0 c.args.text.now)) _ c.requires (c.places_are_inside.ensures c.args.text.now))
+
+pub returns-clause-only : goal.returns-clause-only
+returns-clause-only c =
+    let is : c.as_slice.result.now ≡ lexed 0 0 c.args.text.now = c.as_slice.ensures ∙ c.in_ok-tokens.ensures in
+    let P : List Placed → Type 0 = λ ps. AnswersOnly IsStmt stmt_depth ps c.read_tokens.result in
+    subst P is (only one_statement stmt_depth c.as_slice.result.now c.read_tokens.result c.read_tokens.ensures)
