@@ -1,5 +1,5 @@
 -- Reading an input a line at a time.
-use Rattle.std.proofs.Common.{◌≡◌, ℕ, ◌+◌, ◌<◌, ◌≤◌, length, List, [], ◌∷◌, ◌++◌, Option, None, Some, Result, Ok, Err, true, false, not, filter, refl, ap, sym, ◌∙◌, append_assoc, append-nil, arith}
+use Rattle.std.proofs.Common.{◌≡◌, ℕ, ◌+◌, ◌<◌, ◌≤◌, length, List, [], ◌∷◌, ◌++◌, Option, None, Some, Result, Ok, Err, true, false, not, filter, refl, ap, sym, ◌∙◌, append_assoc, append-nil, length-append, arith}
 use Rattle.std.specs.List.{filter_map, position_from}
 use Rattle.std.specs.Option.{option_map_or}
 use Rattle.sql_base.specs.declared.faults.ScriptFault.{ScriptFault}
@@ -30,6 +30,7 @@ line_bad number read line rest p e = rw (p, e) refl
 pub record ReadSoFar (text : List ℕ) (number : ℕ) (read : List Line) (rest : List ℕ) : Type 0 where
   pub same : script_of text ≡ read_on number read (split_lines rest)
   pub room : number + length rest ≤ length text
+  pub few : length read + length rest ≤ length text
 
 -- at the end
 pub all_read : (text : List ℕ) (number : ℕ) (read : List Line) (rest : List ℕ) → ReadSoFar text number read rest → rest ≡ [] → script_of text ≡ Ok read
@@ -46,4 +47,5 @@ more_read text rest line after number read now one h first less kept e is =
     record {
       same = h.same ∙ ap (read_on number read) first ∙ line_read number read line one (split_lines after) kept (found_line (line_of line) (BadLine (number + 1)) one e) ∙ ap (λ r. read_on (number + 1) r (split_lines after)) (sym is);
       room = omega (arith, h.room);
+      few = omega (arith, h.few, ap length is, length-append read (one ∷ []));
     }

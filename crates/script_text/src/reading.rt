@@ -1,5 +1,5 @@
 //! Reading an input to its first fault or to its end.
-ghost use Rattle.std.specs.Prelude.{◌≤◌, length};
+ghost use Rattle.std.specs.Prelude.{◌≤◌, length, IfOk};
 ghost use Rattle.script_text.specs.Script as spec;
 ghost use Rattle.script_text.specs.Steps.{line_at};
 
@@ -30,7 +30,8 @@ fn line_at(alloc: Global, number: u32, line: &[u8]) -> Result<Line, ScriptFault>
 /// first such line. Lines are counted from 1, and those that are passed by count.
 pub fn read_exec(alloc: Global, text: &[u8]) -> Result<List<Line>, ScriptFault>
     requires { length text.now ≤ 16777216 }
-    ensures { spec.Answers (spec.script_of text.now) result }
+    ensures reading { spec.Answers (spec.script_of text.now) result }
+    ensures few { IfOk result (λ lines. length lines ≤ length text.now) }
 {
     let mut lines = List::new(alloc);
     let mut number = 0;
