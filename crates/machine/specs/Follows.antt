@@ -32,7 +32,7 @@ path_after path (entry ∷ entries) = path_after (path_by path entry.event entry
 
 -- The entry is this event, of this actor.
 pub record IsEvent (actor : ℕ) (what : Event) (entry : Entry) : Type 0 where
-  pub actor : entry.actor ≡ actor
+  pub by : entry.actor ≡ actor
   pub event : entry.event ≡ what
 
 -- The entries are just this event, once.

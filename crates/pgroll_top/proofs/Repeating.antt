@@ -55,7 +55,7 @@ module _ (what : Event) (goes_on : Reply → Bool) where
         → Repeats old new (record { before = before; after = now; faults_before = a; faults_after = c }) (entries ++ entry ∷ [])
     repeats_more done shown more = record {
       advances = advanced;
-      go_on = go_on_more numbers.control what goes_on entries entry so_far.go_on (record { actor = refl; event = refl }) more;
+      go_on = go_on_more numbers.control what goes_on entries entry so_far.go_on (record { by = refl; event = refl }) more;
       written = (told (Ok done) shown).0;
       quiet = (told (Ok done) shown).1;
     }
@@ -63,7 +63,7 @@ module _ (what : Event) (goes_on : Reply → Bool) where
     -- the last time
     pub repeated : (done : Unit {0}) → Shows (record { before = middle; after = now; faults_before = b; faults_after = c }) (line_of entry) (Ok done) → goes_on reply ≡ false
         → Repeated old new (record { before = before; after = now; faults_before = a; faults_after = c }) (Ok done)
-    repeated done shown none = (entries ++ entry ∷ [], advanced, told (Ok done) shown, up_to_end numbers.control what goes_on entries entry so_far.go_on (record { actor = refl; event = refl }) none)
+    repeated done shown none = (entries ++ entry ∷ [], advanced, told (Ok done) shown, up_to_end numbers.control what goes_on entries entry so_far.go_on (record { by = refl; event = refl }) none)
 
     -- the line wasn't written
     pub repeat_stopped : (stop : Stop) → Shows (record { before = middle; after = now; faults_before = b; faults_after = c }) (line_of entry) (Err stop)
@@ -71,8 +71,8 @@ module _ (what : Event) (goes_on : Reply → Bool) where
     repeat_stopped stop shown = (entries ++ entry ∷ [], advanced, told (Err stop) shown, by_reply (goes_on reply) refl)
       where
         by_reply : (more : Bool) → goes_on reply ≡ more → ComesUpTo (Err stop) (entries ++ entry ∷ [])
-        by_reply true e = inl (go_on_more numbers.control what goes_on entries entry so_far.go_on (record { actor = refl; event = refl }) e)
-        by_reply false e = inr (entries ++ entry ∷ [], [], sym (append-nil (entries ++ entry ∷ [])), up_to_end numbers.control what goes_on entries entry so_far.go_on (record { actor = refl; event = refl }) e, refl)
+        by_reply true e = inl (go_on_more numbers.control what goes_on entries entry so_far.go_on (record { by = refl; event = refl }) e)
+        by_reply false e = inr (entries ++ entry ∷ [], [], sym (append-nil (entries ++ entry ∷ [])), up_to_end numbers.control what goes_on entries entry so_far.go_on (record { by = refl; event = refl }) e, refl)
 
   -- no further event was done, for want of memory
   pub repeat_wanting : (old now : Lane) (output : Known) (entries : List Entry) → Repeats old now output entries → Repeated old now output (Err NoMemory)
