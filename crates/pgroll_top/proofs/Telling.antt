@@ -34,7 +34,7 @@ tells_one output entry (Err WriteFault) shown = ([], entry, refl, shown)
 tells_one output entry (Err NoMemory) shown = ([], inr (entry, refl), appends_kept output.before output.before output.after [] (appends_none output.before) shown.0, shown.1)
 
 -- why the work stopped is told the same way whatever it would have answered
-pub tells_stop : {T U : Type 0} (output : Known) (stop : Stop) (entries : List Entry) → Tells output (Err {T = T} stop) entries → Tells output (Err {T = U} stop) entries
+pub tells_stop : {T U : Type 0} (output : Known) (stop : Stop) (entries : List Entry) → Tells {T = T} output (Err stop) entries → Tells {T = U} output (Err stop) entries
 tells_stop output WriteFault entries tells = tells
 tells_stop output NoMemory entries tells = tells
 
@@ -54,5 +54,5 @@ tells_more before middle now a b c h e (Err NoMemory) w quiet (shown, front, wri
     more_shown (inr (last, split)) = inr (last, ap (λ x. h ++ x) split ∙ sym (append_assoc h shown (last ∷ [])))
 
 -- nothing is told
-pub tells_none : (told : Option (List ℕ)) (a : ℕ) → Tells (record { before = told; after = told; faults_before = a; faults_after = a }) (Err {T = Unit {0}} NoMemory) []
+pub tells_none : (told : Option (List ℕ)) (a : ℕ) → Tells {T = Unit {0}} (record { before = told; after = told; faults_before = a; faults_after = a }) (Err NoMemory) []
 tells_none told a = ([], inl refl, appends_none told, refl)

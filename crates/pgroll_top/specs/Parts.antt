@@ -70,7 +70,7 @@ DoesLine old new output line result = (task : Task) × IsTask line task × DoesT
 -- What the work on these lines does, by what it answers: whether a command was refused, or why it stopped.
 abbrev pub Works : List Line → Known → Result Bool Stop → List Entry → Type 0
 Works lines output (Ok refused) history = FollowsLines history lines × (has_refusal history ≡ refused) × Tells output (Ok refused) history
-Works lines output (Err stop) history = BeginsLines history lines × Tells output (Err {T = Bool} stop) history
+Works lines output (Err stop) history = BeginsLines history lines × Tells {T = Bool} output (Err stop) history
 
 -- The end of a call that did all its work.
 abbrev pub end_of_work : Bool → End
