@@ -1,4 +1,5 @@
 pub mod Accept
+pub mod Follows
 pub mod Lawful
 pub mod Laws
 pub mod Migrate

@@ -20,6 +20,7 @@ mod statement;
 mod states;
 mod stops;
 mod tables;
+mod tasks;
 mod writing;
 
 pub use causes::Cause;
@@ -29,3 +30,4 @@ pub use start_state::beginning;
 pub use states::{Halves, Kept, Mode, State};
 pub use stops::Stop;
 pub use tables::Table;
+pub use tasks::Task;

@@ -1,17 +1,33 @@
 -- What the one history says of each status.
-use Rattle.std.proofs.Common.{◌≡◌, ◌⊎◌, ℕ, List, refl, ◌∙◌, inl, inr, ⊎_elim, arith}
+use Rattle.std.proofs.Common.{◌≡◌, ◌⊎◌, ℕ, Bool, true, false, ◌||◌, List, [], ◌∷◌, ◌++◌, Option, None, Some, Err, codes, refl, sym, ap, subst, ◌∙◌, append_assoc, append-nil, inl, inr, ⊎_elim, arith}
+use Rattle.std.specs.Prelude.{slice_index_or}
+use Rattle.std.specs.Io.KnownBytes.{Appends}
+use Rattle.sql_base.specs.declared.faults.ScriptFault.TheVariants.{Line as BadLine}
+use Rattle.mig_lens.specs.declared.faults.Refusal.{Refusal}
+use Rattle.mig_lens.specs.declared.faults.Refusal.TheVariants as refusal
+use Rattle.script_text.specs.Script.{script_of}
+use Rattle.machine.specs.declared.events.Reply.{Reply}
+use Rattle.machine.specs.declared.events.Reply.TheVariants as reply
+use Rattle.roll_core.specs.Lines.{numbered}
+use Rattle.pgroll_top.specs.Work.{actors, has_refusal, line_of, lines_of, refuses}
 use Rattle.pg_io.proofs.Known.{beyond_whole, within_passes}
 use Rattle.pgroll_top.specs.declared.ending.End.{End}
-use Rattle.pgroll_top.specs.declared.ending.End.TheVariants.{Done, Usage, ReadFault, InputTooLong, WantOfMemory}
+use Rattle.pgroll_top.specs.declared.ending.End.TheVariants.{Done, Refused, Usage, ReadFault, InputTooLong, BadScript, WantOfMemory}
 use Rattle.machine.specs.declared.events.Entry.{Entry}
-use Rattle.pg_io.specs.Outside.{Known, Faulted, Quiet, PassesLimit, IsWithin, IsBeyond}
-use Rattle.pgroll_top.specs.Top.{DoesPart, IsForm, HasInput, IsDone, Explains, Because, limit, status_of}
+use Rattle.pg_io.specs.Outside.{Known, Faulted, Quiet, PassesLimit, ReadsWhole, IsWithin, IsBeyond}
+use Rattle.pgroll_top.specs.Top.{DoesAll, DoesPart, IsForm, HasInput, HasBadLine, IsDone, Explains, TellsRefusal, Because, end_line, limit, status_of}
+
+either_way : {A B X : Type 0} → A ⊎ B → (A → X) → (B → X) → X
+either_way (inl a) f g = f a
+either_way (inr b) f g = g b
 
 -- an end by its status
 ended : {X : Type 0} (words : List (List ℕ)) (input : Known) (end : End) (h shown : List Entry) → Because words input end h shown
-    → ((status_of end ≡ 0 → X) × (status_of end ≡ 2 → ¬ IsForm words → X) × (status_of end ≡ 3 → Faulted input → X)
+    → (((status_of end ≡ 0) ⊎ (status_of end ≡ 1) → X) × (status_of end ≡ 2 → ¬ IsForm words → X) × (status_of end ≡ 3 → Faulted input → X)
     × (status_of end ≡ 8 → PassesLimit limit input.before input.after → X) × (status_of end ≡ 6 → X)) → X
-ended words input Done h shown b k = k.0 refl
+ended words input Done h shown b k = k.0 (inl refl)
+ended words input Refused h shown b k = k.0 (inr refl)
+ended words input (BadScript number) h shown b k = k.0 (inr refl)
 ended words input Usage h shown b k = k.1 refl b.0
 ended words input ReadFault h shown b k = k.2 refl b.1
 ended words input InputTooLong h shown b k = k.3 refl b.1
@@ -20,37 +36,39 @@ ended words input WantOfMemory h shown b k = k.4 refl
 module _ (words : List (List ℕ)) (input output : Known) (status : ℕ) where
   pub usage_cause : (h : List Entry) × Explains words input output status h → status ≡ 2 → ¬ IsForm words
   usage_cause (h, (history, inl (end, shown, because, inl closes))) e form = ended words input end h shown because
-      ((λ s. absurd (omega arith)), (λ s no. no form), (λ s f. absurd (omega arith)), (λ s f. absurd (omega arith)), (λ s. absurd (omega arith)))
+      ((λ s. either_way s (λ e. absurd (omega arith)) (λ e. absurd (omega arith))), (λ s no. no form), (λ s f. absurd (omega arith)), (λ s f. absurd (omega arith)), (λ s. absurd (omega arith)))
   usage_cause (h, (history, inl (end, shown, because, inr cut))) e form = absurd (omega (arith, cut.0))
   usage_cause (h, (history, inr breaks)) e form = absurd (omega (arith, breaks.1))
 
   pub read_cause : (h : List Entry) × Explains words input output status h → status ≡ 3 → Faulted input
   read_cause (h, (history, inl (end, shown, because, inl closes))) e = ended words input end h shown because
-      ((λ s. absurd (omega (arith, closes.0))), (λ s no. absurd (omega (arith, closes.0))), (λ s f. f), (λ s f. absurd (omega (arith, closes.0))), (λ s. absurd (omega (arith, closes.0))))
+      ((λ s. either_way s (λ e. absurd (omega (arith, closes.0))) (λ e. absurd (omega (arith, closes.0)))), (λ s no. absurd (omega (arith, closes.0))), (λ s f. f), (λ s f. absurd (omega (arith, closes.0))), (λ s. absurd (omega (arith, closes.0))))
   read_cause (h, (history, inl (end, shown, because, inr cut))) e = absurd (omega (arith, cut.0))
   read_cause (h, (history, inr breaks)) e = absurd (omega (arith, breaks.1))
 
   pub write_cause : (h : List Entry) × Explains words input output status h → status ≡ 4 → Faulted output
   write_cause (h, (history, inl (end, shown, because, inl closes))) e = ended words input end h shown because
-      ((λ s. absurd (omega (arith, closes.0))), (λ s no. absurd (omega (arith, closes.0))), (λ s f. absurd (omega (arith, closes.0))), (λ s f. absurd (omega (arith, closes.0))), (λ s. absurd (omega (arith, closes.0))))
+      ((λ s. either_way s (λ e. absurd (omega (arith, closes.0))) (λ e. absurd (omega (arith, closes.0)))), (λ s no. absurd (omega (arith, closes.0))), (λ s f. absurd (omega (arith, closes.0))), (λ s f. absurd (omega (arith, closes.0))), (λ s. absurd (omega (arith, closes.0))))
   write_cause (h, (history, inl (end, shown, because, inr cut))) e = cut.1.failed
   write_cause (h, (history, inr (form, four, part, (done, last, split, cut)))) e = cut.failed
 
   pub long_cause : (h : List Entry) × Explains words input output status h → status ≡ 8 → PassesLimit limit input.before input.after
   long_cause (h, (history, inl (end, shown, because, inl closes))) e = ended words input end h shown because
-      ((λ s. absurd (omega (arith, closes.0))), (λ s no. absurd (omega (arith, closes.0))), (λ s f. absurd (omega (arith, closes.0))), (λ s f. f), (λ s. absurd (omega (arith, closes.0))))
+      ((λ s. either_way s (λ e. absurd (omega (arith, closes.0))) (λ e. absurd (omega (arith, closes.0)))), (λ s no. absurd (omega (arith, closes.0))), (λ s f. absurd (omega (arith, closes.0))), (λ s f. f), (λ s. absurd (omega (arith, closes.0))))
   long_cause (h, (history, inl (end, shown, because, inr cut))) e = absurd (omega (arith, cut.0))
   long_cause (h, (history, inr breaks)) e = absurd (omega (arith, breaks.1))
 
 module _ (words : List (List ℕ)) (input output : Known) (status : ℕ) where
   pub complete : (h : List Entry) × Explains words input output status h → IsForm words → (HasInput words → IsWithin limit input.before) → ¬ Faulted input → ¬ Faulted output → IsDone status ⊎ (status ≡ 6)
   complete (h, (history, inl (end, shown, because, inl closes))) form within no_read no_write = ended words input end h shown because
-      ((λ s. inl (closes.0 ∙ s)), (λ s no. absurd (no form)), (λ s f. absurd (no_read f)), (λ s f. absurd (within_passes limit input.before input.after (within form) f)), (λ s. inr (closes.0 ∙ s)))
+      ((λ s. inl (either_way s (λ e. inl (closes.0 ∙ e)) (λ e. inr (closes.0 ∙ e)))), (λ s no. absurd (no form)), (λ s f. absurd (no_read f)), (λ s f. absurd (within_passes limit input.before input.after (within form) f)), (λ s. inr (closes.0 ∙ s)))
   complete (h, (history, inl (end, shown, because, inr cut))) form within no_read no_write = absurd (no_write cut.1.failed)
   complete (h, (history, inr (four_form, four, part, (done, last, split, cut)))) form within no_read no_write = absurd (no_write cut.failed)
 
 long_ends : (words : List (List ℕ)) (input : Known) (end : End) (h shown : List Entry) → Because words input end h shown → IsForm words → IsBeyond limit input.before → ¬ Faulted input → (status_of end ≡ 8) ⊎ (status_of end ≡ 6)
 long_ends words input Done h shown b form beyond never = absurd (beyond_whole limit input.before input.after b.1.0 beyond b.1.1.0 b.1.1.1)
+long_ends words input Refused h shown b form beyond never = absurd (beyond_whole limit input.before input.after b.1.0 beyond b.1.1.0 b.1.1.1)
+long_ends words input (BadScript number) h shown b form beyond never = absurd (beyond_whole limit input.before input.after b.1.0 beyond b.1.1.0 b.1.1.1)
 long_ends words input Usage h shown b form beyond never = absurd (b.0 form)
 long_ends words input ReadFault h shown b form beyond never = absurd (never b.1)
 long_ends words input InputTooLong h shown b form beyond never = inl refl
@@ -58,6 +76,8 @@ long_ends words input WantOfMemory h shown b form beyond never = inr refl
 
 usage_ends : (words : List (List ℕ)) (input : Known) (end : End) (h shown : List Entry) → Because words input end h shown → ¬ IsForm words → status_of end ≡ 2
 usage_ends words input Done h shown b never = absurd (never b.0)
+usage_ends words input Refused h shown b never = absurd (never b.0)
+usage_ends words input (BadScript number) h shown b never = absurd (never b.0)
 usage_ends words input Usage h shown b never = refl
 usage_ends words input ReadFault h shown b never = absurd (never b.0)
 usage_ends words input InputTooLong h shown b never = absurd (never b.0)
@@ -84,6 +104,8 @@ quiet_part input h (inr (none, front, quiet)) = quiet
 -- an end without a fault of the input, or the read fault
 quiet_ends : (words : List (List ℕ)) (input : Known) (end : End) (h shown : List Entry) → Because words input end h shown → (status_of end ≡ 3) ⊎ Quiet input
 quiet_ends words input Done h shown b = inr b.1.1.2
+quiet_ends words input Refused h shown b = inr b.1.1.2
+quiet_ends words input (BadScript number) h shown b = inr b.1.1.2
 quiet_ends words input Usage h shown b = inr b.1.1
 quiet_ends words input ReadFault h shown b = inl refl
 quiet_ends words input InputTooLong h shown b = inr b.2
@@ -100,3 +122,92 @@ module _ (words : List (List ℕ)) (input output : Known) (status : ℕ) where
       ⊎_elim (λ e. inl (closes.0 ∙ e)) (λ q. inr (inr q)) (quiet_ends words input end h shown because)
   read_told (h, (history, inl (end, shown, because, inr cut))) = inr (inl cut.0)
   read_told (h, (history, inr breaks)) = inr (inl breaks.1)
+
+-- ---- refusals are told
+
+-- the line of an entry that was refused
+refusal_among : (h : List Entry) → has_refusal h ≡ true → (number : ℕ) × (actor : List ℕ) × (refusal : Refusal) × (front : List ℕ) × (rest : List ℕ) × (lines_of h ≡ front ++ (numbered number actor (reply.Refused refusal) ++ rest))
+refusal_among [] e = cc
+refusal_among (entry ∷ h) e = by_test (refuses entry.reply) refl e
+  where
+    of_reply : (answer : Reply) → entry.reply ≡ answer → refuses answer ≡ true → (number : ℕ) × (actor : List ℕ) × (refusal : Refusal) × (front : List ℕ) × (rest : List ℕ) × (lines_of (entry ∷ h) ≡ front ++ (numbered number actor (reply.Refused refusal) ++ rest))
+    of_reply (reply.Refused refusal) is t = (entry.number, slice_index_or actors entry.actor [], refusal, [], lines_of h, ap (λ answer. numbered entry.number (slice_index_or actors entry.actor []) answer ++ lines_of h) is)
+    of_reply (reply.Insert n) is t = cc
+    of_reply (reply.Select rows) is t = cc
+    of_reply reply.Set is t = cc
+    of_reply (reply.Error code name key) is t = cc
+    of_reply (reply.Start name) is t = cc
+    of_reply (reply.Fill table count first last) is t = cc
+    of_reply reply.Filled is t = cc
+    of_reply (reply.Complete step) is t = cc
+
+    by_test : (b : Bool) → refuses entry.reply ≡ b → (b || has_refusal h) ≡ true → (number : ℕ) × (actor : List ℕ) × (refusal : Refusal) × (front : List ℕ) × (rest : List ℕ) × (lines_of (entry ∷ h) ≡ front ++ (numbered number actor (reply.Refused refusal) ++ rest))
+    by_test true is t = of_reply entry.reply refl is
+    by_test false is t =
+        let later = refusal_among h t in
+        (later.0, later.1, later.2, line_of entry ++ later.3, later.4, ap (λ z. line_of entry ++ z) later.5 ∙ sym (append_assoc (line_of entry) later.3 (numbered later.0 later.1 (reply.Refused later.2) ++ later.4)))
+
+-- an end of status 1 has such a line
+refused_end : (words : List (List ℕ)) (input output : Known) (end : End) (h shown : List Entry) → Because words input end h shown → status_of end ≡ 1
+    → Appends output.before output.after (lines_of shown ++ end_line end) → TellsRefusal output
+refused_end words input output Done h shown b one written = absurd (omega (arith, one))
+refused_end words input output Refused h shown b one written =
+    let found = refusal_among h b.3 in
+    record {
+      number = found.0;
+      actor = found.1;
+      refusal = found.2;
+      before = found.3;
+      after = found.4;
+      written = subst (Appends output.before output.after) (append-nil (lines_of shown) ∙ ap lines_of b.2 ∙ found.5) written;
+    }
+refused_end words input output Usage h shown b one written = absurd (omega (arith, one))
+refused_end words input output ReadFault h shown b one written = absurd (omega (arith, one))
+refused_end words input output InputTooLong h shown b one written = absurd (omega (arith, one))
+refused_end words input output (BadScript number) h shown b one written = record {
+  number = 0;
+  actor = codes "control";
+  refusal = refusal.BadScript number;
+  before = [];
+  after = [];
+  written = subst (Appends output.before output.after) (ap (λ h. lines_of h ++ end_line (BadScript number)) b.3 ∙ sym (append-nil (end_line (BadScript number)))) written;
+}
+refused_end words input output WantOfMemory h shown b one written = absurd (omega (arith, one))
+
+bad_within : (left : Option (List ℕ)) → HasBadLine left → IsWithin limit left
+bad_within None bad = bad
+bad_within (Some text) bad = bad.0
+
+-- what was read whole is what was left
+same_text : (before after : Option (List ℕ)) (text : List ℕ) → ReadsWhole before after text → HasBadLine before → (number : ℕ) × (script_of text ≡ Err (BadLine number))
+same_text None after text whole bad = absurd bad
+same_text (Some all) None text whole bad = absurd whole.taken
+same_text (Some all) (Some rest) text whole bad =
+    let same : all ≡ text = whole.taken ∙ ap (λ z. text ++ z) whole.nothing_left ∙ append-nil text in
+    (bad.1.0, subst (λ z. script_of z ≡ Err (BadLine bad.1.0)) same bad.1.1)
+
+-- no history does all the work of such an input
+bad_follows : (input : Known) (h : List Entry) → DoesAll input h → HasBadLine input.before → ⊥
+bad_follows input h (text, whole, (lines, reads, follows)) bad = let wrong = same_text input.before input.after text whole.0 bad in let other = wrong.1 in cc
+
+-- an input with a bad line comes to these ends alone
+bad_ends : (words : List (List ℕ)) (input : Known) (end : End) (h shown : List Entry) → Because words input end h shown → IsForm words → HasBadLine input.before → ¬ Faulted input → (status_of end ≡ 1) ⊎ (status_of end ≡ 6)
+bad_ends words input Done h shown b form bad never = absurd (bad_follows input h b.1 bad)
+bad_ends words input Refused h shown b form bad never = inl refl
+bad_ends words input Usage h shown b form bad never = absurd (b.0 form)
+bad_ends words input ReadFault h shown b form bad never = absurd (never b.1)
+bad_ends words input InputTooLong h shown b form bad never = absurd (within_passes limit input.before input.after (bad_within input.before bad) b.1)
+bad_ends words input (BadScript number) h shown b form bad never = inl refl
+bad_ends words input WantOfMemory h shown b form bad never = inr refl
+
+module _ (words : List (List ℕ)) (input output : Known) (status : ℕ) where
+  pub refused_cause : (h : List Entry) × Explains words input output status h → status ≡ 1 → TellsRefusal output
+  refused_cause (h, (history, inl (end, shown, because, inl closes))) e = refused_end words input output end h shown because (sym closes.0 ∙ e) closes.1
+  refused_cause (h, (history, inl (end, shown, because, inr cut))) e = absurd (omega (arith, cut.0))
+  refused_cause (h, (history, inr breaks)) e = absurd (omega (arith, breaks.1))
+
+  pub complete_script : (h : List Entry) × Explains words input output status h → HasInput words → HasBadLine input.before → ¬ Faulted input → ¬ Faulted output → (status ≡ 1) ⊎ (status ≡ 6)
+  complete_script (h, (history, inl (end, shown, because, inl closes))) form bad no_read no_write =
+      ⊎_elim (λ e. inl (closes.0 ∙ e)) (λ e. inr (closes.0 ∙ e)) (bad_ends words input end h shown because form bad no_read)
+  complete_script (h, (history, inl (end, shown, because, inr cut))) form bad no_read no_write = absurd (no_write cut.1.failed)
+  complete_script (h, (history, inr (same, four, part, (done, last, split, cut)))) form bad no_read no_write = absurd (no_write cut.failed)

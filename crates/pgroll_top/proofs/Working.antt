@@ -1,123 +1,119 @@
--- The work on a text, a line at a time.
-use Rattle.std.proofs.Common.{arith, ◌≡◌, ℕ, ◌+◌, ◌<◌, ◌≤◌, false, List, [], ◌∷◌, ◌++◌, length, Option, Err, sym, refl, ap, ◌∙◌, subst, append_assoc, append-nil, length-append, inl, inr}
-use Rattle.std.proofs.lemmas.Grind.{flat_map-append}
+-- The work on the lines of an input, a line at a time.
+use Rattle.std.proofs.Common.{◌≡◌, ◌⊎◌, ℕ, zero, suc, ◌+◌, ◌*◌, ◌<◌, ◌≤◌, Bool, ◌||◌, false, List, [], ◌∷◌, ◌++◌, length, take, drop, get_or, Option, Result, Ok, Err, refl, sym, ap, subst, ◌∙◌, append_assoc, append-nil, inl, inr, arith}
 use Rattle.std.specs.Io.KnownBytes.{Appends}
+use Rattle.std.proofs.lemmas.List.{take_more, take-append-drop}
 use Rattle.pg_io.specs.Outside.{Known}
-use Rattle.pg_io.proofs.Known.{appends_more, appends_kept, appends_none, rose_since}
+use Rattle.pg_io.proofs.Known.{appends_none}
+use Rattle.mig_json.specs.Migration.{FaultlessTextsAreRead}
+use Rattle.script_text.specs.declared.lines.Line.{Line}
 use Rattle.machine.specs.declared.events.Entry.{Entry}
-use Rattle.machine.specs.declared.events.Event.TheVariants.{Said}
-use Rattle.machine.specs.declared.events.Reading.{Reading}
-use Rattle.machine.specs.declared.events.Reply.{Reply}
 use Rattle.machine.specs.declared.states.State.{State}
+use Rattle.machine.specs.declared.tasks.Task.{Task}
+use Rattle.machine.specs.Follows as follow
+use Rattle.machine.specs.Laws.{RunsReachStates}
+use Rattle.machine.specs.Standing.{IsState}
 use Rattle.machine.specs.State.{beginning}
-use Rattle.machine.specs.Step.{Step, Run}
+use Rattle.machine.specs.Step.{Run}
 use Rattle.pgroll_top.specs.declared.ending.Stop.{Stop}
-use Rattle.pgroll_top.specs.declared.ending.Stop.TheVariants.{WriteFault, NoMemory}
-use Rattle.pgroll_top.specs.Input.{split_lines, is_passed, statements_of}
-use Rattle.pgroll_top.specs.Work.{ReadsAs, IsSaid, AreSaid, IsHistory, first_path, line_of, lines_of, main_actor}
-use Rattle.pgroll_top.specs.Parts.{Shows, Works}
+use Rattle.pgroll_top.specs.declared.ending.Stop.TheVariants.{NoMemory}
+use Rattle.pgroll_top.specs.declared.lanes.Lane.{Lane}
+use Rattle.pgroll_top.specs.Work.{AreTasks, IsHistory, IsTask, first_path, has_refusal, lines_of, numbers}
+use Rattle.pgroll_top.specs.Parts.{Advances, Comes, DoesLine, Tells, Works, new_lane}
+use Rattle.pgroll_top.proofs.Advancing.{advances_more, advances_none}
+use Rattle.pgroll_top.proofs.Following.{begins_longer, begins_none, follows_begins, follows_more}
+use Rattle.pgroll_top.proofs.Tasks.{some_tasks, tasks_append}
+use Rattle.pgroll_top.proofs.Telling.{tells_more, tells_stop}
 
--- How far the work has come: the history leads to the state as it is, it does the lines before the rest, and its lines are written.
-pub record Worked (text rest : List ℕ) (state : State) (number : ℕ) (output : Known) (history : List Entry) : Type 0 where
-  pub run : Run 1 beginning history state
-  pub count : number ≡ length history
-  pub room : number + length rest ≤ length text
-  pub done : List (List ℕ)
-  pub all : statements_of text ≡ done ++ statements_of rest
-  pub said : AreSaid done history
+-- How far the work has come: the history does what the lines before this place ask for, and its lines are written.
+pub record Worked (lines : List Line) (at : ℕ) (now : Lane) (output : Known) (history : List Entry) : Type 0 where
+  pub advances : Advances new_lane now history
+  pub tasks : List Task
+  pub are : AreTasks (take at lines) tasks
+  pub follows : follow.Follows numbers first_path tasks history
   pub written : Appends output.before output.after (lines_of history)
   pub quiet : output.faults_after ≡ output.faults_before
+  pub room : now.number ≤ at * 262145
 
--- a run goes on by one step
-run_more : (n : ℕ) (s : State) (history : List Entry) (m : State) (entry : Entry) (t : State)
-    → Run n s history m → entry.number ≡ n + length history → Step m entry.event entry.reply t → Run n s (history ++ entry ∷ []) t
-run_more n s [] m entry t p e step = (e ∙ omega arith, t, subst (λ x. Step x entry.event entry.reply t) p step, refl)
-run_more n s (first ∷ history) m entry t p e step = (p.0, p.1, p.2, run_more (n + 1) p.1 history m entry t p.3 (e ∙ omega arith) step)
+-- so far nothing is done
+pub no_work : (lines : List Line) (told : Option (List ℕ)) (a : ℕ) → Worked lines 0 new_lane (record { before = told; after = told; faults_before = a; faults_after = a }) []
+no_work lines told a = record {
+  advances = advances_none new_lane;
+  tasks = [];
+  are = tt;
+  follows = refl;
+  written = appends_none told;
+  quiet = refl;
+  room = omega arith;
+}
 
--- one more line is done
-said_more : (done : List (List ℕ)) (history : List Entry) (line : List ℕ) (entry : Entry)
-    → AreSaid done history → IsSaid first_path line entry → AreSaid (done ++ line ∷ []) (history ++ entry ∷ [])
-said_more [] [] line entry said one = (one, tt)
-said_more [] (first ∷ history) line entry said one = absurd said
-said_more (other ∷ done) [] line entry said one = absurd said
-said_more (other ∷ done) (first ∷ history) line entry said one = (said.0, said_more done history line entry said.1 one)
+-- the state stands
+pub stands_there : RunsReachStates → (lines : List Line) (at : ℕ) (now : Lane) (output : Known) (history : List Entry) → Worked lines at now output history → IsState now.core
+stands_there law lines at now output history w = law 1 history now.core w.advances.run
 
--- one more entry's lines
-lines_more : (history : List Entry) (entry : Entry) → lines_of history ++ line_of entry ≡ lines_of (history ++ entry ∷ [])
-lines_more history entry = ap (λ z. lines_of history ++ z) (sym (append-nil (line_of entry))) ∙ sym (flat_map-append line_of history (entry ∷ []))
+pub history_there : (lines : List Line) (at : ℕ) (now : Lane) (output : Known) (history : List Entry) → Worked lines at now output history → IsHistory history
+history_there lines at now output history w = (now.core, w.advances.run)
 
--- the first line of the rest is a statement
-statement_first : (rest line after : List ℕ) → split_lines rest ≡ line ∷ split_lines after → is_passed line ≡ false → statements_of rest ≡ line ∷ statements_of after
-statement_first rest line after e p = rw (e, p) refl
+module _ (lines : List Line) (at : ℕ) (line : Line) (mid new : Lane) (before middle now : Option (List ℕ)) (a b c : ℕ) (history : List Entry)
+    (w : Worked lines at mid (record { before = before; after = middle; faults_before = a; faults_after = b }) history)
+    (below : at < length lines) (is : line ≡ get_or lines at line) where
+  next : take (at + 1) lines ≡ take at lines ++ line ∷ []
+  next = take_more lines at line below ∙ ap (λ x. take at lines ++ x ∷ []) (sym is)
 
-module _ (text rest line after : List ℕ) (state next : State) (number : ℕ) (reading : Reading) (reply : Reply) (history : List Entry)
-    (first : split_lines rest ≡ line ∷ split_lines after) (kept : is_passed line ≡ false) (reads : ReadsAs line reading) (step : Step state (Said first_path reading) reply next) where
-  -- the entry of the line
-  abbrev pub entry : Entry
-  entry = record { number = number + 1; actor = main_actor; event = Said first_path reading; reply = reply }
+  all : lines ≡ take at lines ++ line ∷ drop (at + 1) lines
+  all = sym (take-append-drop (at + 1) lines) ∙ ap (λ x. x ++ drop (at + 1) lines) next ∙ append_assoc (take at lines) (line ∷ []) (drop (at + 1) lines)
 
-  all_more : (done : List (List ℕ)) → statements_of text ≡ done ++ statements_of rest → statements_of text ≡ (done ++ line ∷ []) ++ statements_of after
-  all_more done all = all ∙ ap (λ z. done ++ z) (statement_first rest line after first kept) ∙ sym (append_assoc done (line ∷ []) (statements_of after))
-
-  history_more : number ≡ length history → Run 1 beginning history state → Run 1 beginning (history ++ entry ∷ []) next
-  history_more count run = run_more 1 beginning history state entry next run (omega arith) step
-
-  said_entry : (done : List (List ℕ)) → AreSaid done history → AreSaid (done ++ line ∷ []) (history ++ entry ∷ [])
-  said_entry done said = said_more done history line entry said (record { reading = reading; reads = reads; event = refl; actor = refl })
-
-  -- the line is written
-  pub worked_more : (before middle now : Option (List ℕ)) (a b c : ℕ)
-      → Worked text rest state number (record { before = before; after = middle; faults_before = a; faults_after = b }) history
-      → length after < length rest → Appends middle now (line_of entry) × (c ≡ b)
-      → Worked text after next (number + 1) (record { before = before; after = now; faults_before = a; faults_after = c }) (history ++ entry ∷ [])
-  worked_more before middle now a b c w less shown = record {
-    run = history_more w.count w.run;
-    count = omega (arith, w.count, length-append history (entry ∷ []));
-    room = omega (arith, w.room);
-    done = w.done ++ line ∷ [];
-    all = all_more w.done w.all;
-    said = said_entry w.done w.said;
-    written = appends_more before middle now (lines_of history) (line_of entry) _ (lines_more history entry) w.written shown.0;
-    quiet = shown.1 ∙ w.quiet;
-  }
-
-  -- the writing of the line failed, or its making
-  pub worked_stopped : (before middle now : Option (List ℕ)) (a b c : ℕ) (stop : Stop)
-      → Worked text rest state number (record { before = before; after = middle; faults_before = a; faults_after = b }) history
-      → Shows (record { before = middle; after = now; faults_before = b; faults_after = c }) (line_of entry) (Err stop)
-      → (h : List Entry) × IsHistory h × Works text (record { before = before; after = now; faults_before = a; faults_after = c }) (Err stop) h
-  worked_stopped before middle now a b c WriteFault w shown = (
-    history ++ entry ∷ [],
-    (next, history_more w.count w.run),
-    (
-      (w.done ++ line ∷ [], statements_of after, all_more w.done w.all, said_entry w.done w.said),
-      (
-        history,
-        entry,
-        refl,
+  -- the line is done
+  pub worked_more : (done : Unit {0}) → DoesLine mid new (record { before = middle; after = now; faults_before = b; faults_after = c }) line (Ok done) → new.number ≤ mid.number + 262145
+      → (h : List Entry) × Worked lines (at + 1) new (record { before = before; after = now; faults_before = a; faults_after = c }) h
+  worked_more done (one, asks, (entries, advances, tells, does)) few =
+      let told = tells_more {T = Unit {0}} before middle now a b c history entries (Ok done) w.written w.quiet tells in (
+        history ++ entries,
         record {
-          front = shown.front;
-          missing = shown.missing;
-          split = shown.split;
-          some = shown.some;
-          written = appends_more before middle now (lines_of history) shown.front _ refl w.written shown.written;
-          failed = rose_since a b c (omega (arith, w.quiet)) shown.failed;
+          advances = advances_more new_lane mid new history entries w.advances advances;
+          tasks = w.tasks ++ one ∷ [];
+          are = subst (λ ls. AreTasks ls (w.tasks ++ one ∷ [])) (sym next) (tasks_append (take at lines) (line ∷ []) w.tasks (one ∷ []) w.are (asks, tt));
+          follows = follows_more numbers first_path w.tasks one history entries w.follows (subst (λ path. follow.Does numbers path one entries) w.advances.path does);
+          written = told.0;
+          quiet = told.1;
+          room = omega (arith, w.room, few);
         },
-      ),
-    ),
-  )
-  worked_stopped before middle now a b c NoMemory w shown = (
-    history ++ entry ∷ [],
-    (next, history_more w.count w.run),
-    (
-      history,
-      inr (entry, refl),
-      (w.done ++ line ∷ [], statements_of after, all_more w.done w.all, said_entry w.done w.said),
-      appends_kept before middle now (lines_of history) w.written shown.0,
-      shown.1 ∙ w.quiet,
-    ),
-  )
+      )
 
--- no work could be done for want of memory
-pub no_work : (text : List ℕ) (told : Option (List ℕ)) (a : ℕ) → (h : List Entry) × IsHistory h × Works text (record { before = told; after = told; faults_before = a; faults_after = a }) (Err NoMemory) h
-no_work text told a = ([], (beginning, refl), ([], inl refl, ([], statements_of text, refl, tt), appends_none told, refl))
+  -- the work stopped in it
+  pub worked_stopped : FaultlessTextsAreRead → (stop : Stop) → DoesLine mid new (record { before = middle; after = now; faults_before = b; faults_after = c }) line (Err stop)
+      → (h : List Entry) × IsHistory h × Works lines (record { before = before; after = now; faults_before = a; faults_after = c }) (Err stop) h
+  worked_stopped law stop (one, asks, (entries, advances, tells, begins)) =
+      let told = tells_more {T = Unit {0}} before middle now a b c history entries (Err stop) w.written w.quiet tells in
+      let advanced = advances_more new_lane mid new history entries w.advances advances in
+      let later = some_tasks law (drop (at + 1) lines) in (
+        history ++ entries,
+        (new.core, advanced.run),
+        (
+          (
+            w.tasks ++ one ∷ later.0,
+            subst (λ ls. AreTasks ls (w.tasks ++ one ∷ later.0)) (sym all) (tasks_append (take at lines) (line ∷ drop (at + 1) lines) w.tasks (one ∷ later.0) w.are (asks, later.1)),
+            follows_begins numbers first_path w.tasks (one ∷ later.0) history entries w.follows (begins_longer numbers (follow.path_after first_path history) one later.0 entries (subst (λ path. follow.Begins numbers path (one ∷ []) entries) w.advances.path begins)),
+          ),
+          tells_stop {T = Unit {0}} {U = Bool} (record { before = before; after = now; faults_before = a; faults_after = c }) stop (history ++ entries) told,
+        ),
+      )
+
+take_all : (lines : List Line) (at : ℕ) → length lines ≤ at → take at lines ≡ lines
+take_all [] zero h = refl
+take_all [] (suc at) h = refl
+take_all (line ∷ lines) zero h = absurd (omega arith)
+take_all (line ∷ lines) (suc at) h = ap (λ z. line ∷ z) (take_all lines at (omega arith))
+
+-- all lines are done
+pub worked_all : (lines : List Line) (at : ℕ) (now : Lane) (output : Known) (history : List Entry) → length lines ≤ at → Worked lines at now output history → Works lines output (Ok now.refused) history
+worked_all lines at now output history end w = (
+  (w.tasks, subst (λ ls. AreTasks ls w.tasks) (take_all lines at end) w.are, w.follows),
+  sym w.advances.refused,
+  (w.written, w.quiet),
+)
+
+-- no line is done, for want of memory
+pub stopped_at_once : FaultlessTextsAreRead → (lines : List Line) (told : Option (List ℕ)) (a : ℕ) → (h : List Entry) × IsHistory h × Works lines (record { before = told; after = told; faults_before = a; faults_after = a }) (Err NoMemory) h
+stopped_at_once law lines told a =
+    let tasks = some_tasks law lines in
+    ([], (beginning, refl), ((tasks.0, tasks.1, begins_none numbers first_path tasks.0), ([], inl refl, appends_none told, refl)))

@@ -1,12 +1,18 @@
 -- What a call does: one history explains the status, what was read and what was written.
-use Rattle.std.specs.Prelude.{◌≡◌, ◌⊎◌, ℕ, ◌≤◌, List, [], ◌∷◌, ◌++◌, length, map, String, string_bytes, codes}
+use Rattle.std.specs.Prelude.{◌≡◌, ◌⊎◌, ℕ, ◌≤◌, List, [], ◌∷◌, ◌++◌, true, false, length, map, Option, Err, IsSomeAnd, String, string_bytes, codes}
 use Rattle.std.specs.declared.alloc.Global.{Global}
 use Rattle.std.specs.Io.KnownBytes.{Appends}
 use Rattle.pg_io.specs.Outside.{Known, Cut, Faulted, Quiet, Untouched, ReadsFront, ReadsWhole, PassesLimit}
+use Rattle.sql_base.specs.declared.faults.ScriptFault.TheVariants.{Line as BadLine}
+use Rattle.mig_lens.specs.declared.faults.Refusal.{Refusal}
+use Rattle.mig_lens.specs.declared.faults.Refusal.TheVariants as refusal
+use Rattle.script_text.specs.Script.{script_of}
 use Rattle.machine.specs.declared.events.Entry.{Entry}
+use Rattle.machine.specs.declared.events.Reply.TheVariants as reply
+use Rattle.roll_core.specs.Lines.{numbered}
 use Rattle.pgroll_top.specs.declared.ending.End.{End}
-use Rattle.pgroll_top.specs.declared.ending.End.TheVariants.{Done, Usage, ReadFault, InputTooLong, WantOfMemory}
-use Rattle.pgroll_top.specs.Work.{IsHistory, IsShown, Follows, Begins, lines_of, line_of}
+use Rattle.pgroll_top.specs.declared.ending.End.TheVariants.{Done, Refused, Usage, ReadFault, InputTooLong, BadScript, WantOfMemory}
+use Rattle.pgroll_top.specs.Work.{IsHistory, IsShown, Follows, Begins, has_refusal, lines_of, line_of}
 
 -- ---- words and input
 
@@ -30,6 +36,14 @@ limit = 65536
 abbrev pub IsInput : Known → List ℕ → Type 0
 IsInput input text = ReadsWhole input.before input.after text × (length text ≤ limit) × Quiet input
 
+-- The whole input was read, and the first of its lines that breaks the rules has this number.
+abbrev pub IsBadInput : Known → ℕ → Type 0
+IsBadInput input number = (text : List ℕ) × IsInput input text × (script_of text ≡ Err (BadLine number))
+
+-- The input is known, is within the limit, and has a line that breaks the rules.
+abbrev pub HasBadLine : Option (List ℕ) → Type 0
+HasBadLine left = IsSomeAnd left (λ text. (length text ≤ limit) × ((number : ℕ) × (script_of text ≡ Err (BadLine number))))
+
 -- ---- the work
 
 -- The input was read to its end, and the history does all its work.
@@ -46,16 +60,20 @@ CutAtLast output history = (done : List Entry) × (last : Entry) × (history ≡
 
 -- ---- how a call ends
 
--- The line of an end; the end of the work itself has none.
+-- The line of an end; the end of the work itself has none. P21 is told as a refusal of control, of number 0, since no event came of it.
 abbrev pub end_line : End → List ℕ
 end_line Done = []
+end_line Refused = []
 end_line Usage = codes "usage: pgroll_cli JOURNAL COMMAND [ARGS] [--batch N] [--pause-at N]\n"
 end_line ReadFault = codes "0 control ERROR read\n"
 end_line InputTooLong = codes "0 control ERROR input\n"
+end_line (BadScript number) = numbered 0 (codes "control") (reply.Refused (refusal.BadScript number))
 end_line WantOfMemory = codes "0 control ERROR memory\n"
 
 abbrev pub status_of : End → ℕ
 status_of Done = 0
+status_of Refused = 1
+status_of (BadScript number) = 1
 status_of Usage = 2
 status_of ReadFault = 3
 status_of InputTooLong = 8
@@ -67,14 +85,16 @@ write_fault = 4
 
 -- The statuses of a call that did all its work.
 abbrev pub IsDone : ℕ → Type 0
-IsDone status = status ≡ status_of Done
+IsDone status = (status ≡ status_of Done) ⊎ (status ≡ status_of Refused)
 
 -- Why the call came to this end, with which history, and which entries of it had their lines written.
 abbrev pub Because : List (List ℕ) → Known → End → List Entry → List Entry → Type 0
-Because words input Done history shown = IsForm words × DoesAll input history × (shown ≡ history)
+Because words input Done history shown = IsForm words × DoesAll input history × (shown ≡ history) × (has_refusal history ≡ false)
+Because words input Refused history shown = IsForm words × DoesAll input history × (shown ≡ history) × (has_refusal history ≡ true)
 Because words input Usage history shown = ¬ IsForm words × Untouched input × (history ≡ []) × (shown ≡ [])
 Because words input ReadFault history shown = IsForm words × Faulted input × ReadsFront input.before input.after × (history ≡ []) × (shown ≡ [])
 Because words input InputTooLong history shown = IsForm words × PassesLimit limit input.before input.after × Quiet input × (history ≡ []) × (shown ≡ [])
+Because words input (BadScript number) history shown = IsForm words × IsBadInput input number × (history ≡ []) × (shown ≡ [])
 Because words input WantOfMemory history shown = IsForm words × DoesPart input history × IsShown shown history
 
 -- The call came to an end: some lines were written, and then the end's own line, and no write failed; or that line was cut short by a fault.
@@ -94,3 +114,14 @@ Breaks words input output status history = IsForm words × (status ≡ write_fau
 -- This history explains the call: it is a run of the machine, and the words, what was read, what was written and the status are as it says. A call ends in one of two ways: with its end's own line, or at an entry's line whose writing failed.
 abbrev pub Explains : List (List ℕ) → Known → Known → ℕ → List Entry → Type 0
 Explains words input output status history = IsHistory history × (Ends words input output status history ⊎ Breaks words input output status history)
+
+-- ---- what is told
+
+-- A REFUSED line was written, of this refusal. (Of a sink that doesn't tell its bytes, it may be any bytes.)
+pub record TellsRefusal (output : Known) : Type 0 where
+  pub number : ℕ
+  pub actor : List ℕ
+  pub refusal : Refusal
+  pub before : List ℕ
+  pub after : List ℕ
+  pub written : Appends output.before output.after (before ++ (numbered number actor (reply.Refused refusal) ++ after))

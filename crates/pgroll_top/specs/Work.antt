@@ -1,25 +1,42 @@
 -- Histories, and what it means that a history does the work of an input.
-use Rattle.std.specs.Prelude.{◌≡◌, ◌⊎◌, ℕ, List, [], ◌∷◌, ◌++◌, codes}
+use Rattle.std.specs.Prelude.{◌≡◌, ◌⊎◌, ℕ, List, [], ◌∷◌, ◌++◌, Bool, true, false, Ok, Some, codes}
+use Rattle.std.specs.List.{list_any}
+use Rattle.std.specs.Option.{option_map}
 use Rattle.sql_base.specs.declared.stmts.Stmt.{Stmt}
 use Rattle.sql_small.specs.Small.{Reads}
+use Rattle.mig_lens.specs.declared.faults.Refusal.{Refusal}
+use Rattle.mig_lens.specs.declared.faults.Refusal.TheVariants as refusal
+use Rattle.mig_json.specs.declared.faults.JsonFault.{JsonFault}
+use Rattle.mig_json.specs.declared.faults.JsonFault.TheVariants as fault
+use Rattle.mig_json.specs.Migration.{IsReading}
+use Rattle.mig_json.specs.Reading.{text_fault}
+use Rattle.script_text.specs.declared.lines.Line.{Line}
+use Rattle.script_text.specs.declared.lines.Line.TheVariants.{Text, Command}
+use Rattle.script_text.specs.declared.lines.Order.TheVariants as order
+use Rattle.script_text.specs.Script.{script_of}
+use Rattle.machine.specs.declared.events.Asked.{Asked}
+use Rattle.machine.specs.declared.events.Asked.TheVariants.{Read as Migrates, Refused as NotRead}
 use Rattle.machine.specs.declared.events.Entry.{Entry}
-use Rattle.machine.specs.declared.events.Event.TheVariants.{Said}
 use Rattle.machine.specs.declared.events.Reading.{Reading}
 use Rattle.machine.specs.declared.events.Reading.TheVariants.{Stmt as Read, Syntax}
+use Rattle.machine.specs.declared.events.Reply.{Reply}
+use Rattle.machine.specs.declared.events.Reply.TheVariants.{Refused}
 use Rattle.machine.specs.declared.states.State.{State}
-use Rattle.roll_core.specs.Lines as lines
+use Rattle.machine.specs.declared.tasks.Task.{Task}
+use Rattle.machine.specs.declared.tasks.Task.TheVariants as task
+use Rattle.machine.specs.Follows as lane
 use Rattle.machine.specs.State.{beginning, path_name}
 use Rattle.machine.specs.Step.{Run}
-use Rattle.pgroll_top.specs.Input.{statements_of}
+use Rattle.roll_core.specs.Lines as lines
 
 -- ---- actors
 
--- The actors of a call, by their numbers from 0: control, and main, which says the statements of `exec`.
+-- The actors of a call, by their numbers from 0: control, which does the commands, and main, which says the statements of `exec`.
 abbrev pub actors : List (List ℕ)
 actors = codes "control" ∷ codes "main" ∷ []
 
-abbrev pub main_actor : ℕ
-main_actor = 1
+abbrev pub numbers : lane.Actors
+numbers = record { lane = 1; control = 0 }
 
 -- ---- histories
 
@@ -38,35 +55,67 @@ line_of entry = lines.line_of actors entry
 abbrev pub IsShown : List Entry → List Entry → Type 0
 IsShown shown history = (history ≡ shown) ⊎ ((last : Entry) × (history ≡ shown ++ last ∷ []))
 
--- ---- the work of an input
+-- A command was refused: its line says REFUSED.
+abbrev pub refuses : Reply → Bool
+refuses (Refused refusal) = true
+refuses _ = false
+
+abbrev pub has_refusal : List Entry → Bool
+has_refusal history = list_any (λ entry. refuses entry.reply) history
+
+-- ---- what the lines of an input ask for
 
 -- What a line reads as: the statement that stands there, or, where none does, no statement.
 abbrev pub ReadsAs : List ℕ → Reading → Type 0
 ReadsAs line (Read stmt) = Reads line stmt
 ReadsAs line Syntax = (stmt : Stmt) → ¬ Reads line stmt
 
--- An entry is the one event of a line: main says what the line reads as, through this path of versions.
-pub record IsSaid (path : List (List ℕ)) (line : List ℕ) (entry : Entry) : Type 0 where
-  pub reading : Reading
-  pub reads : ReadsAs line reading
-  pub event : entry.event ≡ Said path reading
-  pub actor : entry.actor ≡ main_actor
+-- The first fault of a migration's text refuses its start: P20 where the text is too long, else P16, P14 or P15 with the fault's path or place. (No text has want of memory for its fault.)
+abbrev pub refusal_of : JsonFault → Refusal
+refusal_of (fault.TooLong len) = refusal.Limit (codes "migration")
+refusal_of (fault.Json path) = refusal.BadJson path
+refusal_of (fault.BadExpr place) = refusal.BadExpr place
+refusal_of (fault.BadType place) = refusal.BadType place
+refusal_of fault.NoMemory = refusal.Limit []
 
--- The path that statements go through: the version that a call begins with.
+-- What the text of a migration asks for: the migration that it reads as, or, where it reads as none, nothing, for its first fault.
+abbrev pub AsksFor : List ℕ → Asked → Type 0
+AsksFor text (Migrates migration) = IsReading text migration
+AsksFor text (NotRead refusal) = option_map refusal_of (text_fault text) ≡ Some refusal
+
+-- What a line asks for.
+abbrev pub IsTask : Line → Task → Type 0
+IsTask (Text line) (task.Say reading) = ReadsAs line reading
+IsTask (Command (order.Start text)) (task.Start asked) = AsksFor text asked
+IsTask (Command (order.Batch n)) (task.Batch m) = m ≡ n
+IsTask (Command order.Fill) task.Fill = Unit {0}
+IsTask (Command order.Complete) task.Complete = Unit {0}
+IsTask _ _ = ⊥
+
+-- These tasks are what these lines ask for, one each, in order.
+abbrev pub AreTasks : List Line → List Task → Type 0
+AreTasks [] [] = Unit {0}
+AreTasks (line ∷ later) (one ∷ tasks) = IsTask line one × AreTasks later tasks
+AreTasks _ _ = ⊥
+
+-- ---- the work of an input
+
+-- The path that statements go through at first: the version that a call begins with.
 abbrev pub first_path : List (List ℕ)
 first_path = path_name beginning.version ∷ []
 
--- The entries are the events of these lines: in their order, each line once, and nothing else.
-abbrev pub AreSaid : List (List ℕ) → List Entry → Type 0
-AreSaid [] [] = Unit {0}
-AreSaid (line ∷ later) (entry ∷ entries) = IsSaid first_path line entry × AreSaid later entries
-AreSaid [] (entry ∷ entries) = ⊥
-AreSaid (line ∷ later) [] = ⊥
+-- The history does all that these lines ask for: their tasks, in order, each once.
+abbrev pub FollowsLines : List Entry → List Line → Type 0
+FollowsLines history lines = (tasks : List Task) × AreTasks lines tasks × lane.Follows numbers first_path tasks history
 
--- The history does all the work of an input: its statements, in order, each once.
+-- The history does the first part of it.
+abbrev pub BeginsLines : List Entry → List Line → Type 0
+BeginsLines history lines = (tasks : List Task) × AreTasks lines tasks × lane.Begins numbers first_path tasks history
+
+-- Every line of the input reads, and the history does all that they ask for.
 abbrev pub Follows : List Entry → List ℕ → Type 0
-Follows history text = AreSaid (statements_of text) history
+Follows history text = (lines : List Line) × (script_of text ≡ Ok lines) × FollowsLines history lines
 
--- The history does the first part of the work of an input.
+-- Every line of the input reads, and the history does the first part of what they ask for.
 abbrev pub Begins : List Entry → List ℕ → Type 0
-Begins history text = (done : List (List ℕ)) × (later : List (List ℕ)) × (statements_of text ≡ done ++ later) × AreSaid done history
+Begins history text = (lines : List Line) × (script_of text ≡ Ok lines) × BeginsLines history lines

@@ -3,11 +3,12 @@ ghost use Rattle.std.specs.Prelude.{◌≡◌, ◌⊎◌, ◌≤◌, ◌↔◌, 
 ghost use Rattle.pg_io.specs.Causes.{Rose};
 ghost use Rattle.pg_io.specs.Outside.{known, PassesLimit, IsWithin, IsBeyond};
 ghost use Rattle.machine.specs.declared.events.Entry.{Entry};
-ghost use Rattle.pgroll_top.specs.Top.{texts, IsForm, HasInput, IsDone, Explains, limit};
+ghost use Rattle.pgroll_top.specs.Top.{texts, IsForm, HasInput, HasBadLine, IsDone, Explains, TellsRefusal, limit};
 
-use crate::ending::{End, Stop, WRITE_FAULT, close, end_of_fault};
+use crate::ending::{End, Stop, WRITE_FAULT, close, end_of_fault, end_of_script, end_of_work};
 use crate::exec::work;
 use pg_io::{Sink, Source, read_whole};
+use script_text::read_exec;
 use std::alloc::Global;
 
 /// The longest input, in bytes.
@@ -43,8 +44,12 @@ fn perform<S: Source, K: Sink>(alloc: Global, words: &[String], input: &mut S, o
         Ok(text) => text,
         Err(fault) => return close(out, end_of_fault(fault)),
     };
-    match work(alloc, &text, out) {
-        Ok(()) => close(out, End::Done),
+    let lines = match read_exec(alloc, &text) {
+        Ok(lines) => lines,
+        Err(fault) => return close(out, end_of_script(fault)),
+    };
+    match work(alloc, lines.as_slice(), out) {
+        Ok(refused) => close(out, end_of_work(refused)),
         Err(Stop::NoMemory) => close(out, End::WantOfMemory),
         Err(Stop::WriteFault) => WRITE_FAULT,
     }
@@ -53,19 +58,24 @@ fn perform<S: Source, K: Sink>(alloc: Global, words: &[String], input: &mut S, o
 /// Does what the words ask for, and answers the status that the program ends with.
 ///
 /// The one form of words is `exec` alone. It reads the input to its end, where it has at most 65,536 bytes, and then
-/// takes its lines in order: empty lines, lines of spaces alone and lines that begin with `--` are passed by, and each other
-/// line is one statement of `main` over the table `users`, which is empty at first. For each a line with its number
-/// and its reply is written, and behind the line of a SELECT one for each row.
+/// takes its lines in order. Empty lines, lines of spaces alone and lines that begin with `--` are passed by. A line
+/// that begins with a backslash is a command of control: `\start TEXT` starts the migration of this JSON text,
+/// `\batch N` fills at most N rows, `\fill` fills batches of 1,000 rows up to one that fills none, and `\complete` does
+/// the steps of completing that are due. Each other line is one statement of `main`, through the path that the last
+/// `SET search_path` before it gave, at first the version `01_users`, whose one table `users` is empty. For each
+/// event a line with its number and its reply is written, and behind the line of a SELECT one for each row.
 ///
 /// The statuses, with the line that each writes besides (the numbers and the texts are our own):
 ///
-/// - 0: all is done; an `ERROR` reply of a statement doesn't change it.
+/// - 0: all is done, and no command was refused; an `ERROR` reply of a statement doesn't change it.
+/// - 1: all is done, and a command was refused, which its line says; or a line of the input begins with a backslash
+///   and is no command: `0 control REFUSED P21 n`, where the n-th line, from 1, is the first such, and no event is done.
 /// - 2: the words aren't of a form: the usage line, and nothing is read.
-/// - 3: a read of the input failed: `0 control ERROR read`, and no statement is done.
-/// - 4: the writing of a line failed; nothing is written after it, and no later statement is done.
-/// - 6: the call gave up for want of memory outside a statement: `0 control ERROR memory`. No clause says that memory
+/// - 3: a read of the input failed: `0 control ERROR read`, and no event is done.
+/// - 4: the writing of a line failed; nothing is written after it, and no later event is done.
+/// - 6: the call gave up for want of memory outside an event: `0 control ERROR memory`. No clause says that memory
 ///   was wanting.
-/// - 8: the input is longer than its limit: `0 control ERROR input`, and no statement is done.
+/// - 8: the input is longer than its limit: `0 control ERROR input`, and no event is done.
 pub fn top<S: Source, K: Sink>(alloc: Global, words: &[String], input: &mut S, out: &mut K) -> u8
     // One history explains the status, what was read and what was written.
     ensures history { (history : List Entry) × Explains (texts words.now)
@@ -75,6 +85,7 @@ pub fn top<S: Source, K: Sink>(alloc: Global, words: &[String], input: &mut S, o
     ensures usage { result ≡ 2 → ¬ IsForm (texts words.now) }
     ensures read_fault { result ≡ 3 → Rose (S.faults input.old) (S.faults input.new) }
     ensures write_fault { result ≡ 4 → Rose (K.faults out.old) (K.faults out.new) }
+    ensures refused { result ≡ 1 → TellsRefusal (known K.held K.faults out.old out.new) }
     ensures too_long { result ≡ 8 → PassesLimit limit (S.left input.old) (S.left input.new) }
 
     // A fault of the outside is told by the status, and isn't passed over.
@@ -85,6 +96,9 @@ pub fn top<S: Source, K: Sink>(alloc: Global, words: &[String], input: &mut S, o
     ensures complete { IsForm (texts words.now) → (HasInput (texts words.now) → IsWithin limit (S.left input.old))
         → ¬ Rose (S.faults input.old) (S.faults input.new) → ¬ Rose (K.faults out.old) (K.faults out.new)
         → IsDone result ⊎ (result ≡ 6) }
+    ensures complete_script { HasInput (texts words.now) → HasBadLine (S.left input.old)
+        → ¬ Rose (S.faults input.old) (S.faults input.new) → ¬ Rose (K.faults out.old) (K.faults out.new)
+        → (result ≡ 1) ⊎ (result ≡ 6) }
     ensures complete_long { HasInput (texts words.now) → IsBeyond limit (S.left input.old)
         → ¬ Rose (S.faults input.old) (S.faults input.new) → ¬ Rose (K.faults out.old) (K.faults out.new)
         → (result ≡ 8) ⊎ (result ≡ 6) }

@@ -1,10 +1,11 @@
 //! The top call: from the words and the input's bytes to the output's lines and the status.
 #![tactic(auto)]
 
+mod asking;
 mod command;
 mod ending;
 mod exec;
-mod input;
+mod lanes;
 mod refused;
 mod report;
 

@@ -263,11 +263,11 @@ fn push_reply(out: &mut Vec<u8>, alloc: Global, reply: &Reply) -> Result<(), NoM
 }
 
 /// The line of a reply with its number and the name of its actor, and the lines of its rows.
-pub fn line_of(alloc: Global, number: u32, actor: &str, reply: &Reply) -> Result<Vec<u8>, NoMemory>
+pub fn line_of(alloc: Global, number: u64, actor: &str, reply: &Reply) -> Result<Vec<u8>, NoMemory>
     ensures { IfOk result (λ line. line.items ≡ spec.numbered number actor.now reply.now) }
 {
     let mut out = Vec::new(alloc);
-    push_count(&mut out, alloc, u64::from(number))?;
+    push_count(&mut out, alloc, number)?;
     out.extend_from_slice(b" ")?;
     out.extend_from_slice(actor.as_bytes())?;
     out.extend_from_slice(b" ")?;

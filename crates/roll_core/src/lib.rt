@@ -6,4 +6,4 @@
 
 mod engine;
 
-pub use engine::{Core, MAX_REPLY, MAX_ROWS};
+pub use engine::{Cmd, Core, MAX_REPLY, MAX_ROWS};

@@ -1,4 +1,4 @@
-use Rattle.pgroll_top.proofs.Closing.{unread, out_of_memory, quiet_read}
+use Rattle.pgroll_top.proofs.Closing.{unread, unscripted, all_done, out_of_memory, cut_off, quiet_read}
 use Rattle.pgroll_top.proofs.command.perform.Goals as goal
 
 pub returns-in-Err-clause-history : goal.returns-in-Err-clause-history
@@ -6,10 +6,3 @@ returns-in-Err-clause-history g c =
     let form = c.is_form.ensures.0 c.if-not-is_form.false in
     let closes = rw c.end_of_fault.ensures at c.close-in-Err.ensures.closes in
     unread _ _ _ _ c.in-Err.fault form c.in-Err.ensures.front c.in-Err.ensures.passed c.in-Err.ensures.failed c.in-Err.ensures.too_long closes
-
-pub returns-in-Err-NoMemory-clause-history : goal.returns-in-Err-NoMemory-clause-history
-returns-in-Err-NoMemory-clause-history g c =
-    let form = c.is_form.ensures.0 c.if-not-is_form.false in
-    let quiet = quiet_read c.in-Ok.text c.in-Ok.ensures.passed in
-    let works = rw c.in-Err-NoMemory.field-0-is at c.in-Err-NoMemory.ensures.works in
-    out_of_memory _ _ _ _ _ _ _ _ _ c.in-Ok.text.items _ form (c.in-Ok.ensures.whole, c.in-Ok.ensures.short, quiet) c.deref.ensures.value works c.close-in-Err-NoMemory.ensures.closes

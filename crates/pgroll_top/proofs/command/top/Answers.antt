@@ -1,4 +1,4 @@
-use Rattle.pgroll_top.proofs.Causes.{usage_cause, read_cause, write_cause, long_cause, complete, complete_long, complete_usage, write_told, read_told}
+use Rattle.pgroll_top.proofs.Causes.{usage_cause, read_cause, write_cause, long_cause, complete, complete_long, complete_usage, complete_script, refused_cause, write_told, read_told}
 use Rattle.pgroll_top.proofs.command.top.Goals as goal
 
 pub returns-clause-usage : goal.returns-clause-usage
@@ -27,3 +27,9 @@ returns-clause-write_told g c = write_told _ _ _ _ c.perform.ensures.history
 
 pub returns-clause-read_told : goal.returns-clause-read_told
 returns-clause-read_told g c = read_told _ _ _ _ c.perform.ensures.history
+
+pub returns-clause-refused : goal.returns-clause-refused
+returns-clause-refused g c = refused_cause _ _ _ _ c.perform.ensures.history
+
+pub returns-clause-complete_script : goal.returns-clause-complete_script
+returns-clause-complete_script g c = complete_script _ _ _ _ c.perform.ensures.history

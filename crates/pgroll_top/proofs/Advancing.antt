@@ -1,0 +1,82 @@
+-- A lane goes on by entries.
+use Rattle.std.proofs.Common.{◌≡◌, ◌⊎◌, ℕ, ◌+◌, Bool, true, false, ◌||◌, List, [], ◌∷◌, ◌++◌, length, Option, Result, Ok, Err, refl, sym, ap, subst, ◌∙◌, append-nil, length-append, inl, inr, arith}
+use Rattle.std.specs.List.{list_any}
+use Rattle.pg_io.specs.Outside.{Known}
+use Rattle.machine.specs.declared.events.Entry.{Entry}
+use Rattle.machine.specs.declared.events.Event.{Event}
+use Rattle.machine.specs.declared.events.Reply.{Reply}
+use Rattle.machine.specs.declared.states.State.{State}
+use Rattle.machine.specs.declared.tasks.Task.{Task}
+use Rattle.machine.specs.Follows.{Does, path_after, path_by}
+use Rattle.machine.specs.Step.{Run, Step}
+use Rattle.pgroll_top.specs.declared.ending.Stop.{Stop}
+use Rattle.pgroll_top.specs.declared.lanes.Lane.{Lane}
+use Rattle.pgroll_top.specs.Work.{has_refusal, line_of, numbers, refuses}
+use Rattle.pgroll_top.specs.Parts.{Advances, Comes, DoesTask, Shows, Tells}
+use Rattle.pgroll_top.proofs.Following.{does_begins, path_append}
+use Rattle.pgroll_top.proofs.Telling.{tells_one}
+
+-- ---- one run after another
+
+pub run_append : (n : ℕ) (s : State) (h : List Entry) (m : State) (e : List Entry) (t : State) → Run n s h m → Run (n + length h) m e t → Run n s (h ++ e) t
+run_append n s [] m e t first second = subst (λ x. Run n x e t) first (let same : n + 0 ≡ n = omega arith in subst (λ k. Run k m e t) same second)
+run_append n s (entry ∷ h) m e t first second =
+    (first.0, first.1, first.2, run_append (n + 1) first.1 h m e t first.3 (let same : n + length (entry ∷ h) ≡ n + 1 + length h = omega arith in subst (λ k. Run k m e t) same second))
+
+or_assoc : (a b c : Bool) → ((a || b) || c) ≡ (a || (b || c))
+or_assoc true b c = refl
+or_assoc false b c = refl
+
+or_false : (a : Bool) → (a || false) ≡ a
+or_false true = refl
+or_false false = refl
+
+pub refusal_append : (h e : List Entry) → has_refusal (h ++ e) ≡ (has_refusal h || has_refusal e)
+refusal_append [] e = refl
+refusal_append (entry ∷ h) e = ap (λ b. refuses entry.reply || b) (refusal_append h e) ∙ sym (or_assoc (refuses entry.reply) (has_refusal h) (has_refusal e))
+
+pub advances_more : (old mid new : Lane) (h e : List Entry) → Advances old mid h → Advances mid new e → Advances old new (h ++ e)
+advances_more old mid new h e first second = record {
+  run = run_append (old.number + 1) old.core h mid.core e new.core first.run (let same : mid.number + 1 ≡ old.number + 1 + length h = omega (arith, first.number) in subst (λ k. Run k mid.core e new.core) same second.run);
+  number = omega (arith, first.number, second.number, length-append h e);
+  path = second.path ∙ ap (λ path. path_after path e) first.path ∙ sym (path_append old.path h e);
+  refused = second.refused ∙ ap (λ b. b || has_refusal e) first.refused ∙ or_assoc old.refused (has_refusal h) (has_refusal e) ∙ ap (λ b. old.refused || b) (sym (refusal_append h e));
+}
+
+pub advances_none : (lane : Lane) → Advances lane lane []
+advances_none lane = record { run = refl; number = omega arith; path = refl; refused = sym (or_false lane.refused) }
+
+-- ---- one event
+
+-- The entry of an event with its reply.
+abbrev pub entry_of : Lane → ℕ → Event → Reply → Entry
+entry_of old actor what reply = record { number = old.number + 1; actor = actor; event = what; reply = reply }
+
+-- The lane after it, which has this core and goes through this path.
+abbrev pub lane_after : Lane → State → List (List ℕ) → Reply → Lane
+lane_after old core path reply = record { core = core; path = path; number = old.number + 1; refused = old.refused || refuses reply }
+
+pub advances_one : (old : Lane) (actor : ℕ) (what : Event) (reply : Reply) (core : State) (path : List (List ℕ)) (new : Lane)
+    → Step old.core what reply core → path ≡ path_by old.path what reply → new ≡ lane_after old core path reply
+    → Advances old new (entry_of old actor what reply ∷ [])
+advances_one old actor what reply core path new step moved is =
+    subst (λ lane. Advances old lane (entry_of old actor what reply ∷ [])) (sym is) (record {
+      run = (refl, core, step, refl);
+      number = refl;
+      path = moved;
+      refused = ap (λ b. old.refused || b) (sym (or_false (refuses reply)));
+    })
+
+pub comes : (path : List (List ℕ)) (one : Task) (result : Result (Unit {0}) Stop) (entries : List Entry) → Does numbers path one entries → Comes path one result entries
+comes path one (Ok done) entries does = does
+comes path one (Err stop) entries does = does_begins numbers path one entries does
+
+-- a task of one event
+pub does_one : (old : Lane) (output : Known) (one : Task) (actor : ℕ) (what : Event) (reply : Reply) (core : State) (path : List (List ℕ)) (new : Lane) (result : Result (Unit {0}) Stop)
+    → Step old.core what reply core → path ≡ path_by old.path what reply → new ≡ lane_after old core path reply
+    → Shows output (line_of (entry_of old actor what reply)) result
+    → Does numbers old.path one (entry_of old actor what reply ∷ [])
+    → DoesTask old new output one result
+does_one old output one actor what reply core path new result step moved is shown does =
+    let entry = entry_of old actor what reply in
+    (entry ∷ [], advances_one old actor what reply core path new step moved is, tells_one output entry result shown, comes old.path one result (entry ∷ []) does)

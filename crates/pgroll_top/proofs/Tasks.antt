@@ -1,0 +1,41 @@
+-- What lines ask for.
+use Rattle.std.proofs.Common.{◌≡◌, ℕ, List, [], ◌∷◌, ◌++◌, Option, None, Some, refl, sym, ap}
+use Rattle.std.specs.Option.{option_map}
+use Rattle.mig_json.specs.declared.faults.JsonFault.{JsonFault}
+use Rattle.mig_json.specs.Migration.{FaultlessTextsAreRead}
+use Rattle.mig_json.specs.Reading.{text_fault}
+use Rattle.script_text.specs.declared.lines.Line.{Line}
+use Rattle.script_text.specs.declared.lines.Line.TheVariants.{Text, Command}
+use Rattle.script_text.specs.declared.lines.Order.TheVariants as order
+use Rattle.machine.specs.declared.events.Asked.{Asked}
+use Rattle.machine.specs.declared.events.Asked.TheVariants.{Read as Migrates, Refused as NotRead}
+use Rattle.machine.specs.declared.tasks.Task.{Task}
+use Rattle.machine.specs.declared.tasks.Task.TheVariants as task
+use Rattle.pgroll_top.specs.Work.{AreTasks, AsksFor, IsTask, refusal_of}
+use Rattle.pgroll_top.proofs.Reading.{some_reading}
+
+-- each text of a migration asks for something
+pub some_asked : FaultlessTextsAreRead → (text : List ℕ) → (asked : Asked) × AsksFor text asked
+some_asked law text = by_fault (text_fault text) refl
+  where
+    by_fault : (fault : Option JsonFault) → text_fault text ≡ fault → (asked : Asked) × AsksFor text asked
+    by_fault None e = let read = law text e in (Migrates read.0, read.1)
+    by_fault (Some fault) e = (NotRead (refusal_of fault), ap (option_map refusal_of) e)
+
+-- so does each line
+pub some_task : FaultlessTextsAreRead → (line : Line) → (one : Task) × IsTask line one
+some_task law (Text line) = let read = some_reading line in (task.Say read.0, read.1)
+some_task law (Command (order.Start text)) = let asked = some_asked law text in (task.Start asked.0, asked.1)
+some_task law (Command (order.Batch n)) = (task.Batch n, refl)
+some_task law (Command order.Fill) = (task.Fill, tt)
+some_task law (Command order.Complete) = (task.Complete, tt)
+
+pub some_tasks : FaultlessTextsAreRead → (lines : List Line) → (tasks : List Task) × AreTasks lines tasks
+some_tasks law [] = ([], tt)
+some_tasks law (line ∷ lines) = let first = some_task law line in let others = some_tasks law lines in (first.0 ∷ others.0, (first.1, others.1))
+
+pub tasks_append : (lines more : List Line) (tasks later : List Task) → AreTasks lines tasks → AreTasks more later → AreTasks (lines ++ more) (tasks ++ later)
+tasks_append [] more [] later h k = k
+tasks_append [] more (one ∷ tasks) later h k = absurd h
+tasks_append (line ∷ lines) more [] later h k = absurd h
+tasks_append (line ∷ lines) more (one ∷ tasks) later h k = (h.0, tasks_append lines more tasks later h.1 k)

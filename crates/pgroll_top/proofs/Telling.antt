@@ -1,0 +1,58 @@
+-- Lines of entries that are written one after another.
+use Rattle.std.proofs.Common.{◌≡◌, ◌≢◌, ◌⊎◌, ℕ, ◌+◌, ◌≤◌, List, [], ◌∷◌, ◌++◌, Option, Result, Ok, Err, refl, sym, ap, ◌∙◌, append_assoc, append-nil, inl, inr, arith}
+use Rattle.std.specs.Io.KnownBytes.{Appends, Keeps}
+use Rattle.std.proofs.lemmas.Grind.{flat_map-append}
+use Rattle.pg_io.specs.Outside.{Known, Cut}
+use Rattle.pg_io.proofs.Known.{appends_more, appends_kept, appends_none, rose_since}
+use Rattle.machine.specs.declared.events.Entry.{Entry}
+use Rattle.pgroll_top.specs.declared.ending.Stop.{Stop}
+use Rattle.pgroll_top.specs.declared.ending.Stop.TheVariants.{WriteFault, NoMemory}
+use Rattle.pgroll_top.specs.Work.{IsShown, line_of, lines_of}
+use Rattle.pgroll_top.specs.Parts.{Shows, Tells}
+use Rattle.pgroll_top.specs.Top.{CutAtLast}
+
+pub lines_append : (h e : List Entry) → lines_of h ++ lines_of e ≡ lines_of (h ++ e)
+lines_append h e = sym (flat_map-append line_of h e)
+
+-- what was cut behind what was written
+pub cut_after : (before middle now : Option (List ℕ)) (a b c : ℕ) (front whole all last : List ℕ) → Appends before middle front → b ≡ a → front ++ whole ≡ all
+    → Cut (record { before = middle; after = now; faults_before = b; faults_after = c }) whole last
+    → Cut (record { before = before; after = now; faults_before = a; faults_after = c }) all last
+cut_after before middle now a b c front whole all last w quiet e cut = record {
+  front = cut.front;
+  missing = cut.missing;
+  split = cut.split;
+  some = cut.some;
+  written = appends_more before middle now front (whole ++ cut.front) (all ++ cut.front) (sym (append_assoc front whole cut.front) ∙ ap (λ x. x ++ cut.front) e) w cut.written;
+  failed = rose_since a b c (omega (arith, quiet)) cut.failed;
+}
+
+-- the line of one entry
+pub tells_one : (output : Known) (entry : Entry) (result : Result (Unit {0}) Stop) → Shows output (line_of entry) result → Tells output result (entry ∷ [])
+tells_one output entry (Ok done) shown = (appends_more output.before output.before output.after [] (line_of entry) (lines_of (entry ∷ [])) (sym (append-nil (line_of entry))) (appends_none output.before) shown.0, shown.1)
+tells_one output entry (Err WriteFault) shown = ([], entry, refl, shown)
+tells_one output entry (Err NoMemory) shown = ([], inr (entry, refl), appends_kept output.before output.before output.after [] (appends_none output.before) shown.0, shown.1)
+
+-- why the work stopped is told the same way whatever it would have answered
+pub tells_stop : {T U : Type 0} (output : Known) (stop : Stop) (entries : List Entry) → Tells {T = T} output (Err stop) entries → Tells {T = U} output (Err stop) entries
+tells_stop output WriteFault entries tells = tells
+tells_stop output NoMemory entries tells = tells
+
+-- more lines behind those that were written
+pub tells_more : {T : Type 0} (before middle now : Option (List ℕ)) (a b c : ℕ) (h e : List Entry) (result : Result T Stop)
+    → Appends before middle (lines_of h) → b ≡ a
+    → Tells (record { before = middle; after = now; faults_before = b; faults_after = c }) result e
+    → Tells (record { before = before; after = now; faults_before = a; faults_after = c }) result (h ++ e)
+tells_more before middle now a b c h e (Ok done) w quiet tells = (appends_more before middle now (lines_of h) (lines_of e) (lines_of (h ++ e)) (lines_append h e) w tells.0, tells.1 ∙ quiet)
+tells_more before middle now a b c h e (Err WriteFault) w quiet (done, last, split, cut) =
+    (h ++ done, last, ap (λ x. h ++ x) split ∙ sym (append_assoc h done (last ∷ [])), cut_after before middle now a b c (lines_of h) (lines_of done) (lines_of (h ++ done)) (line_of last) w quiet (lines_append h done) cut)
+tells_more before middle now a b c h e (Err NoMemory) w quiet (shown, front, written, still) =
+    (h ++ shown, more_shown front, appends_more before middle now (lines_of h) (lines_of shown) (lines_of (h ++ shown)) (lines_append h shown) w written, still ∙ quiet)
+  where
+    more_shown : IsShown shown e → IsShown (h ++ shown) (h ++ e)
+    more_shown (inl same) = inl (ap (λ x. h ++ x) same)
+    more_shown (inr (last, split)) = inr (last, ap (λ x. h ++ x) split ∙ sym (append_assoc h shown (last ∷ [])))
+
+-- nothing is told
+pub tells_none : (told : Option (List ℕ)) (a : ℕ) → Tells {T = Unit {0}} (record { before = told; after = told; faults_before = a; faults_after = a }) (Err NoMemory) []
+tells_none told a = ([], inl refl, appends_none told, refl)

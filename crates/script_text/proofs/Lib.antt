@@ -1,0 +1,4 @@
+pub mod Counting
+pub mod FirstLine
+pub mod Fronts
+pub mod ReadOn

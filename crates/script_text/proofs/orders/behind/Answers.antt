@@ -1,0 +1,8 @@
+use Rattle.std.proofs.lemmas.Bool.Decides.{Decides-eqb}
+use Rattle.std.proofs.lemmas.Slice.Eq.{strip_prefix_is}
+use Rattle.script_text.proofs.Fronts.{behind_is}
+use Rattle.script_text.proofs.orders.behind.Goals as goal
+
+pub returns : goal.returns
+returns c =
+    behind_is c.args.front.now c.args.line.now c.strip_prefix.result (strip_prefix_is Decides-eqb c.args.line.now c.args.front.now c.strip_prefix.result c.strip_prefix.ensures.cases)
