@@ -163,7 +163,7 @@ name_of (t.Name name) = Some name
 name_of (t.Quoted name) = Some name
 name_of _ = None
 
--- one of a kind or more, with commas between them
+-- one of a kind or more, with commas between them (ReadsAll is the same of expressions, and stands among their rules)
 pub data Listed {X : Type 0} (ReadsOne : List Token → X → Type 0) : List Token → List X → Type 0 where
   first : {xs : List Token} {a : X} → ReadsOne xs a → Listed ReadsOne xs (a ∷ [])
   next : {xs ys : List Token} {list : List X} {a : X} → Listed ReadsOne xs list → ReadsOne ys a → Listed ReadsOne (xs ++ t.Sign s.Comma ∷ ys) (list ++ a ∷ [])

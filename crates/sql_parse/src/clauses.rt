@@ -12,8 +12,8 @@ use sql_base::{Copying, Expr, Items, List, Name, NoMemory, Stmt};
 use sql_text::{Key, Sign, Token};
 use std::alloc::Global;
 
-/// The name that a token is. An error is want of memory, here and below; `None` says that the token can't be gone
-/// through, or in a part of a statement that a tree was given up.
+/// The name that a token is. An error is want of memory, here and below. A stage that is `None` says that the token can't
+/// be gone through, and a tree, a list or a statement that is `None` that a tree was given up.
 pub fn name_of(alloc: Global, token: &Token) -> Result<Option<Name>, NoMemory>
     ensures { IfOk result (λ name. name ≡ grammar.name_of token.now) }
 {
@@ -23,6 +23,7 @@ pub fn name_of(alloc: Global, token: &Token) -> Result<Option<Name>, NoMemory>
     }
 }
 
+// The tree of a part.
 fn whole(part: Part) -> Option<Expr>
     ensures { result ≡ spec.whole part }
 {
@@ -93,6 +94,7 @@ pub fn main_then(alloc: Global, main: Main, token: &Token) -> Option<Stage>
     }
 }
 
+// A token behind the values of a tuple so far.
 fn values_then(
     alloc: Global,
     table: Name,
@@ -113,6 +115,7 @@ fn values_then(
     }
 }
 
+// A token behind the assignments so far.
 fn sets_then(
     alloc: Global,
     table: Name,
@@ -127,6 +130,7 @@ fn sets_then(
     }
 }
 
+// A token behind the items so far.
 fn items_then(alloc: Global, list: Option<List<Expr>>, token: &Token) -> Option<Stage>
     ensures { result ≡ spec.items_then list token.now }
 {
