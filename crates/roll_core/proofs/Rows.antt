@@ -1,168 +1,153 @@
--- A map of rows, and the rows that it means.
-use Rattle.std.proofs.Common.{arith, ◌≡◌, ℕ, ◌+◌, nat_le, nat_lt, ℤ, List, [], ◌∷◌, length, map, take, refl, ap, sym, ◌∙◌, Bool, true, false, cond, ◌||◌, Option, Some, None, Result, Ok, Err, if◌then◌else◌}
-use Rattle.std.proofs.lemmas.Map.Lookups.{exact_signed}
-use Rattle.std.proofs.lemmas.Map.Made.{is_some-lookup}
-use Rattle.std.specs.BTreeMap.{is_at, insert_entry}
-use Rattle.std.specs.List.{list_any}
-use Rattle.std.specs.Map.{keys_of, lookup}
-use Rattle.std.specs.Option.{is_some, option_map, option_map_or, option_or}
-use Rattle.std.specs.Ordering.{int_cmp, int_eq, match_ordering}
-use Rattle.std.specs.declared.cmp.Ordering.{Ordering}
-use Rattle.std.specs.declared.cmp.Ordering.TheVariants.{Less, Equal, Greater}
-use Rattle.sql_base.specs.Outcome.{and_then, every}
-use Rattle.sql_base.specs.declared.stmts.Items.{Items}
-use Rattle.sql_base.specs.declared.values.Value.{Value}
-use Rattle.sql_eval.specs.Row.{least}
-use Rattle.machine.specs.declared.causes.Cause.{Cause}
-use Rattle.machine.specs.declared.events.Reply.{Reply}
-use Rattle.machine.specs.declared.events.Reply.TheVariants.{Insert, Select}
+-- Rows in ascending key: places, and one more row.
+use Rattle.std.proofs.Common.{arith, ◌≡◌, ◌≤◌, ◌<◌, ℕ, zero, suc, ℤ, List, [], ◌∷◌, ◌++◌, length, map, take, drop, refl, ap, sym, subst, ◌∙◌, Bool, true, false, ◌||◌, Option, Some, None, int_cmp, int_eq, Ordering, Less, Equal, Greater}
+use Rattle.std.specs.Prelude.{insert, slice_get, slice_set}
+use Rattle.std.specs.List.{AllByRecursion}
+use Rattle.std.specs.Option.{option_map_or}
+use Rattle.std.specs.Ordering.{is_eq, match_ordering, ordering_reverse}
+use Rattle.std.proofs.lemmas.Cmp.{int_cmp_total}
 use Rattle.machine.specs.declared.states.Kept.{Kept}
-use Rattle.machine.specs.declared.states.State.{State}
-use Rattle.machine.specs.Accept.{half_cause, has_key, heavy_cause, is_heavy, key_cause, taken_key, without}
-use Rattle.machine.specs.State.{put_row, row_count, rows_of, users, with_rows}
-use Rattle.machine.specs.Statement.{Outcome, key_of, long_reply, max_reply, max_rows, or_reply, refused_row, select_rows, too_many_rows, write, written}
-use Rattle.machine.specs.declared.stops.Stop.{Stop}
-use Rattle.machine.specs.declared.stops.Stop.TheVariants.{Because, NoMemory}
-use Rattle.machine.specs.Stops.{Answers as GivesRows}
-use Rattle.roll_core.proofs.Picking.{stopped}
-use Rattle.roll_core.specs.Engine.{Answers, IsMeant, cause_alone, found, kept_of, meaning, only_table, picked_kept, picked_rows, row_alone}
+use Rattle.machine.specs.Accept.{has_key}
+use Rattle.machine.specs.State.{put_row}
+use Rattle.machine.specs.Standing.{Ascends}
+use Rattle.machine.proofs.Placing.{Above, above_fresh, above_less, ascends_above, ascends_rest, cmp_flips, cmp_trans}
+use Rattle.trigger_pair.specs.declared.pairs.Pair.{Pair}
+use Rattle.roll_core.specs.declared.phases.Phase.{Phase}
+use Rattle.roll_core.specs.declared.store.StoredRow.{StoredRow}
+use Rattle.roll_core.specs.Store.{RowsAscend, bare, kept, place, put_stored}
 
--- ---- the map
+-- ---- keys alone
 
--- the same keys are there
-keys-kept : (key : ℤ) (entries : List (ℤ × List Value)) → has_key key (kept_of entries) ≡ list_any (is_at (int_cmp key)) (keys_of entries)
-keys-kept key [] = refl
-keys-kept key (entry ∷ entries) = ap (λ rest. is_at (int_cmp key) entry.0 || rest) (keys-kept key entries)
+-- whatever the halves are, the keys are the rows'
+pub ascend_bare : (phase : Phase) (pair : Option Pair) (rows : List StoredRow) → Ascends (map (kept phase pair) rows) → RowsAscend rows
+ascend_bare phase pair [] h = tt
+ascend_bare phase pair (row ∷ []) h = tt
+ascend_bare phase pair (row ∷ next ∷ rows) h = (h.0, ascend_bare phase pair (next ∷ rows) h.1)
 
-pub has_key-kept : (key : ℤ) (entries : List (ℤ × List Value)) → is_some (lookup (is_at (int_cmp key)) entries) ≡ has_key key (kept_of entries)
-has_key-kept key entries = is_some-lookup (is_at (int_cmp key)) entries ∙ sym (keys-kept key entries)
+pub ascend_kept : (phase : Phase) (pair : Option Pair) (rows : List StoredRow) → RowsAscend rows → Ascends (map (kept phase pair) rows)
+ascend_kept phase pair [] h = tt
+ascend_kept phase pair (row ∷ []) h = tt
+ascend_kept phase pair (row ∷ next ∷ rows) h = (h.0, ascend_kept phase pair (next ∷ rows) h.1)
 
--- an entry is put where its row is put, at each order of the keys
-put_at : (key : ℤ) (row : List Value) (entry : ℤ × List Value) (entries : List (ℤ × List Value))
-    → kept_of (insert_entry int_cmp entries key row) ≡ put_row (row_alone key row) (kept_of entries)
-    → (order : Ordering) → int_cmp key entry.0 ≡ order
-    → kept_of (match_ordering order ((key, row) ∷ entry ∷ entries) ((entry.0, row) ∷ entries) (entry ∷ insert_entry int_cmp entries key row))
-    ≡ match_ordering order (row_alone key row ∷ kept_of (entry ∷ entries)) (row_alone key row ∷ kept_of entries) (row_alone entry.0 entry.1 ∷ put_row (row_alone key row) (kept_of entries))
-put_at key row entry entries rest Less e = refl
-put_at key row entry entries rest Equal e = ap (λ k. row_alone k row ∷ kept_of entries) (sym (exact_signed key entry.0 e))
-put_at key row entry entries rest Greater e = ap (λ rows. row_alone entry.0 entry.1 ∷ rows) rest
+pub has_key-kept : (phase : Phase) (pair : Option Pair) (key : ℤ) (rows : List StoredRow) → has_key key (map (kept phase pair) rows) ≡ has_key key (map bare rows)
+has_key-kept phase pair key [] = refl
+has_key-kept phase pair key (row ∷ rows) = ap (λ rest. int_eq key row.key || rest) (has_key-kept phase pair key rows)
 
-put_row-kept : (key : ℤ) (row : List Value) (entries : List (ℤ × List Value)) → kept_of (insert_entry int_cmp entries key row) ≡ put_row (row_alone key row) (kept_of entries)
-put_row-kept key row [] = refl
-put_row-kept key row (entry ∷ entries) = put_at key row entry entries (put_row-kept key row entries) (int_cmp key entry.0) refl
+-- ---- the place of a key
 
--- one more entry of the map means one more row of the table
-pub put_means : (version : List ℕ) (old new : List (ℤ × List Value)) (key : ℤ) (row : List Value) → new ≡ insert_entry int_cmp old key row
-    → meaning version new ≡ with_rows (meaning version old) 1 (put_row (row_alone key row) (kept_of old))
-put_means version old new key row e = rw (e, put_row-kept key row old) refl
+same_some : {X : Type 0} (a b : X) → Some a ≡ Some b → a ≡ b
+same_some a b h = cc
 
--- ---- INSERT of one row
+-- a row further on has a greater key than the first
+further : (row : StoredRow) (rows : List StoredRow) (at : ℕ) (other : StoredRow) → RowsAscend (row ∷ rows) → slice_get rows at ≡ Some other → int_cmp row.key other.key ≡ Less
+further row [] at other h e = cc
+further row (next ∷ rows) zero other h e = subst (λ (r : StoredRow). int_cmp row.key r.key ≡ Less) (same_some next other e) h.0
+further row (next ∷ rows) (suc at) other h e = cmp_trans row.key next.key other.key h.0 (further next rows at other h.1 e)
 
-abbrev or_refused : Option Cause → Outcome → Outcome
-or_refused cause next = option_map_or (λ cause. Err (refused_row cause)) cause next
+flips_back : (x y : ℤ) → int_cmp x y ≡ Less → int_cmp y x ≡ Greater
+flips_back x y h = int_cmp_total.antisymm y x ∙ ap ordering_reverse h
 
--- its key is refused where it is there
-key_cause-alone : (key : ℤ) (values : List Value) (rows : List Kept)
-    → key_cause only_table rows (row_alone key values ∷ []) ≡ (if has_key key rows then Some (taken_key only_table key) else None)
-key_cause-alone key values rows = by_tests (has_key key rows) (int_eq key key)
+-- a key above that of a row has its place behind the row
+pub place_past : (key : ℤ) (rows : List StoredRow) (at : ℕ) (other : StoredRow) → RowsAscend rows → slice_get rows at ≡ Some other → int_cmp key other.key ≡ Greater → suc at ≤ place key rows
+place_past key [] at other h e g = cc
+place_past key (row ∷ rows) zero other h e g =
+    let past : int_cmp key row.key ≡ Greater = subst (λ (r : StoredRow). int_cmp key r.key ≡ Greater) (sym (same_some row other e)) g in
+    subst (λ o. 1 ≤ match_ordering o 0 0 (suc (place key rows))) (sym past) (omega arith)
+place_past key (row ∷ rows) (suc at) other h e g =
+    let before = further row rows at other h e in
+    let past : int_cmp key row.key ≡ Greater = flips_back row.key key (cmp_trans row.key other.key key before (cmp_flips key other.key g)) in
+    let there = place_past key rows at other (ascends_rest (bare row) (map bare rows) h) e g in
+    subst (λ o. suc (suc at) ≤ match_ordering o 0 0 (suc (place key rows))) (sym past) (omega arith)
+
+-- a key that isn't has it there or before
+pub place_upto : (key : ℤ) (rows : List StoredRow) (at : ℕ) (other : StoredRow) → slice_get rows at ≡ Some other → (int_cmp key other.key ≡ Greater → ⊥) → place key rows ≤ at
+place_upto key [] at other e g = cc
+place_upto key (row ∷ rows) zero other e g = by_order (int_cmp key row.key) (λ k. g (subst (λ (r : StoredRow). int_cmp key r.key ≡ Greater) (same_some row other e) k))
   where
-    by_tests : (there same : Bool)
-        → option_map (taken_key only_table) (least (cond (there || nat_lt 1 (length (cond same (row_alone key values ∷ []) []))) (key ∷ []) []))
-        ≡ (if there then Some (taken_key only_table key) else None)
-    by_tests true same = refl
-    by_tests false true = refl
-    by_tests false false = refl
-
--- it is looked at by itself
-looked_at : (wrong : Option Cause) (row : Kept) (next : List Kept → Outcome)
-    → and_then (or_reply refused_row (every (without wrong row ∷ []))) next ≡ or_refused wrong (next (row ∷ []))
-looked_at None row next = refl
-looked_at (Some cause) row next = refl
-
--- then beside the others
-written_alone : (version : List ℕ) (entries : List (ℤ × List Value)) (key : ℤ) (values : List Value)
-    → written (meaning version entries) found (row_alone key values ∷ [])
-    ≡ or_refused (if has_key key (kept_of entries) then Some (taken_key only_table key) else None)
-    (if nat_lt max_rows (row_count (meaning version entries) + 1) then Err too_many_rows
-    else Ok (Insert 1, with_rows (meaning version entries) 1 (put_row (row_alone key values) (kept_of entries))))
-written_alone version entries key values =
-    rw (key_cause-alone key values (kept_of entries)) (by_tests (has_key key (kept_of entries)) (nat_lt max_rows (row_count (meaning version entries) + 1)))
+    by_order : (o : Ordering) → (o ≡ Greater → ⊥) → match_ordering o 0 0 (suc (place key rows)) ≤ 0
+    by_order Less no = omega arith
+    by_order Equal no = omega arith
+    by_order Greater no = absurd (no refl)
+place_upto key (row ∷ rows) (suc at) other e g = by_order (int_cmp key row.key) (place_upto key rows at other e g)
   where
-    t : State
-    t = with_rows (meaning version entries) 1 (put_row (row_alone key values) (kept_of entries))
+    by_order : (o : Ordering) → place key rows ≤ at → match_ordering o 0 0 (suc (place key rows)) ≤ suc at
+    by_order Less there = omega arith
+    by_order Equal there = omega arith
+    by_order Greater there = omega arith
 
-    by_tests : (there full : Bool)
-        → without (option_or (option_map refused_row (option_or (if there then Some (taken_key only_table key) else None) None)) (if full then Some too_many_rows else None)) (Insert 1, t)
-        ≡ or_refused (if there then Some (taken_key only_table key) else None) (if full then Err too_many_rows else Ok (Insert 1, t))
-    by_tests true full = refl
-    by_tests false true = refl
-    by_tests false false = refl
-
--- one after the other
-both : (half : Option Cause) (heavy : Bool) (key : ℤ) (taken : Option Cause) (next : Outcome)
-    → or_refused (option_or half (option_or None (if heavy || false then Some (heavy_cause key) else None))) (or_refused taken next)
-    ≡ or_refused (option_or half (option_or (if heavy then Some (heavy_cause key) else None) taken)) next
-both (Some cause) heavy key taken next = refl
-both None true key taken next = refl
-both None false key taken next = refl
-
-write_alone : (version : List ℕ) (entries : List (ℤ × List Value)) (values : List Value)
-    → write (meaning version entries) found (values ∷ [])
-    ≡ or_refused (cause_alone (key_of users values) values (kept_of entries))
-    (if nat_lt max_rows (row_count (meaning version entries) + 1) then Err too_many_rows
-    else Ok (Insert 1, with_rows (meaning version entries) 1 (put_row (row_alone (key_of users values) values) (kept_of entries))))
-write_alone version entries values =
-    let key = key_of users values in
-    let wrong = option_or (half_cause only_table key values) (option_or None (if is_heavy (Some values) || false then Some (heavy_cause key) else None)) in
-    looked_at wrong (row_alone key values) (written (meaning version entries) found)
-    ∙ ap (or_refused wrong) (written_alone version entries key values)
-    ∙ both (half_cause only_table key values) (is_heavy (Some values)) key _ _
-
-pub write_refused : (s : State) → IsMeant s → (key : ℤ) (values : List Value) (cause : Cause) → key ≡ key_of users values
-    → cause_alone key values (rows_of s 1) ≡ Some cause → write s found (values ∷ []) ≡ Err (refused_row cause)
-write_refused s m key values cause k e =
-    let why : cause_alone (key_of users values) values (kept_of m.entries) ≡ Some cause = rw (m.means, k) at e in
-    rw m.means (write_alone m.version m.entries values ∙ rw why refl)
-
-pub write_full : (s : State) → IsMeant s → (key : ℤ) (values : List Value) → key ≡ key_of users values
-    → cause_alone key values (rows_of s 1) ≡ None → nat_le max_rows (row_count s) ≡ true → write s found (values ∷ []) ≡ Err too_many_rows
-write_full s m key values k e f =
-    let why : cause_alone (key_of users values) values (kept_of m.entries) ≡ None = rw (m.means, k) at e in
-    let full : nat_le max_rows (row_count (meaning m.version m.entries)) ≡ true = rw m.means at f in
-    let past : nat_lt max_rows (row_count (meaning m.version m.entries) + 1) ≡ true = grind (arith, full) in
-    rw m.means (write_alone m.version m.entries values ∙ rw (why, past) refl)
-
-pub write_done : (s : State) → IsMeant s → (key : ℤ) (values : List Value) → key ≡ key_of users values
-    → cause_alone key values (rows_of s 1) ≡ None → nat_le max_rows (row_count s) ≡ false
-    → write s found (values ∷ []) ≡ Ok (Insert 1, with_rows s 1 (put_row (row_alone key values) (rows_of s 1)))
-write_done s m key values k e f =
-    let why : cause_alone (key_of users values) values (kept_of m.entries) ≡ None = rw (m.means, k) at e in
-    let free : nat_le max_rows (row_count (meaning m.version m.entries)) ≡ false = rw m.means at f in
-    let past : nat_lt max_rows (row_count (meaning m.version m.entries) + 1) ≡ false = grind (arith, free) in
-    rw (m.means, k) (write_alone m.version m.entries values ∙ rw (why, past) refl)
-
--- ---- SELECT
-
-abbrev pub selected : State → Result (List (List Value)) Reply → Outcome
-selected s (Ok all) = Ok (Select all, s)
-selected s (Err fault) = Err fault
-
--- the rows of a reply are those that were picked
-pub select_picked : (s : State) (items : Items) (rows : List Kept) (picked : Result (List (List Value)) Reply)
-    → picked_rows items rows ≡ picked → select_rows s found items rows ≡ selected s picked
-select_picked s items rows picked e = by_rows (every (map (picked_kept items) (take max_reply rows))) ∙ ap (selected s) e
+pub place_within : (key : ℤ) (rows : List StoredRow) → place key rows ≤ length rows
+place_within key [] = omega arith
+place_within key (row ∷ rows) = by_order (int_cmp key row.key) (place_within key rows)
   where
-    by_rows : (r : Result (List (List Value)) Reply)
-        → and_then {U = Reply × State} r (λ all. if nat_lt max_reply (length rows) then Err long_reply else Ok (Select all, s))
-        ≡ selected s (and_then r (λ all. if nat_lt max_reply (length rows) then Err long_reply else Ok all))
-    by_rows (Err fault) = refl
-    by_rows (Ok all) = by_length (nat_lt max_reply (length rows))
-      where
-        by_length : (long : Bool) → (if long then Err long_reply else Ok (Select all, s)) ≡ selected s (if long then Err long_reply else Ok all)
-        by_length true = refl
-        by_length false = refl
+    by_order : (o : Ordering) → place key rows ≤ length rows → match_ordering o 0 0 (suc (place key rows)) ≤ suc (length rows)
+    by_order Less there = omega arith
+    by_order Equal there = omega arith
+    by_order Greater there = omega arith
 
-pub select_refused : (s : State) (items : Items) (rows : List Kept) (why : Stop Reply)
-    → GivesRows (picked_rows items rows) (stopped {T = List (List Value)} why) → Answers s (select_rows s found items rows) (stopped {T = Reply} why) s
-select_refused s items rows NoMemory p = refl
-select_refused s items rows (Because fault) p = (select_picked s items rows (Err fault) p, refl)
+-- whether the row at a key's place has that key
+abbrev pub holds_at : ℤ → List StoredRow → ℕ → Bool
+holds_at key rows at = option_map_or (λ other. int_eq key other.key) (slice_get rows at) false
+
+pub has_key-place : (key : ℤ) (rows : List StoredRow) → RowsAscend rows → holds_at key rows (place key rows) ≡ has_key key (map bare rows)
+has_key-place key [] h = refl
+has_key-place key (row ∷ rows) h = by_order (int_cmp key row.key) refl (has_key-place key rows (ascends_rest (bare row) (map bare rows) h))
+  where
+    above : int_cmp key row.key ≡ Less → Above key (map bare rows)
+    above k = above_less key row.key (map bare rows) k (ascends_above (bare row) (map bare rows) h)
+
+    by_order : (o : Ordering) → int_cmp key row.key ≡ o → holds_at key rows (place key rows) ≡ has_key key (map bare rows)
+        → holds_at key (row ∷ rows) (match_ordering o 0 0 (suc (place key rows))) ≡ (is_eq (int_cmp key row.key) || has_key key (map bare rows))
+    by_order Less k there = let fresh = above_fresh key (map bare rows) (above k) (ascends_rest (bare row) (map bare rows) h) in rw (k, fresh) refl
+    by_order Equal k there = rw k refl
+    by_order Greater k there = rw k there
+
+-- ---- one more row
+
+-- A row of a new key is put at its place.
+pub put_fresh : (row : StoredRow) (rows : List StoredRow) → has_key row.key (map bare rows) ≡ false → put_stored row rows ≡ insert rows (place row.key rows) row
+put_fresh row [] h = refl
+put_fresh row (first ∷ rows) h = by_order (int_cmp row.key first.key) refl h (put_fresh row rows)
+  where
+    by_order : (o : Ordering) → int_cmp row.key first.key ≡ o → (is_eq o || has_key row.key (map bare rows)) ≡ false
+        → (has_key row.key (map bare rows) ≡ false → put_stored row rows ≡ insert rows (place row.key rows) row)
+        → match_ordering o (row ∷ first ∷ rows) (row ∷ rows) (first ∷ put_stored row rows) ≡ insert (first ∷ rows) (match_ordering o 0 0 (suc (place row.key rows))) row
+    by_order Less k none there = refl
+    by_order Equal k none there = cc
+    by_order Greater k none there = ap (λ rest. first ∷ rest) (there none)
+
+-- A row of a key that is there takes the place of that.
+pub put_known : (row : StoredRow) (rows : List StoredRow) → RowsAscend rows → has_key row.key (map bare rows) ≡ true → (place row.key rows < length rows) × (put_stored row rows ≡ slice_set rows (place row.key rows) row)
+put_known row [] a h = cc
+put_known row (first ∷ rows) a h = by_order (int_cmp row.key first.key) refl h (put_known row rows (ascends_rest (bare first) (map bare rows) a))
+  where
+    above : int_cmp row.key first.key ≡ Less → has_key row.key (map bare rows) ≡ false
+    above k = above_fresh row.key (map bare rows) (above_less row.key first.key (map bare rows) k (ascends_above (bare first) (map bare rows) a)) (ascends_rest (bare first) (map bare rows) a)
+
+    by_order : (o : Ordering) → int_cmp row.key first.key ≡ o → (is_eq o || has_key row.key (map bare rows)) ≡ true
+        → (has_key row.key (map bare rows) ≡ true → (place row.key rows < length rows) × (put_stored row rows ≡ slice_set rows (place row.key rows) row))
+        → (match_ordering o 0 0 (suc (place row.key rows)) < suc (length rows))
+        × (match_ordering o (row ∷ first ∷ rows) (row ∷ rows) (first ∷ put_stored row rows) ≡ slice_set (first ∷ rows) (match_ordering o 0 0 (suc (place row.key rows))) row)
+    by_order Less k some there = let fresh = above k in cc
+    by_order Equal k some there = (omega arith, refl)
+    by_order Greater k some there = let rest = there some in let less = rest.0 in (omega arith, ap (λ more. first ∷ more) rest.1)
+
+-- It is put where the row that it means is put.
+pub put_kept : (phase : Phase) (pair : Option Pair) (row : StoredRow) (rows : List StoredRow) → map (kept phase pair) (put_stored row rows) ≡ put_row (kept phase pair row) (map (kept phase pair) rows)
+put_kept phase pair row [] = refl
+put_kept phase pair row (first ∷ rows) = by_order (int_cmp row.key first.key) (put_kept phase pair row rows)
+  where
+    by_order : (o : Ordering) → map (kept phase pair) (put_stored row rows) ≡ put_row (kept phase pair row) (map (kept phase pair) rows)
+        → map (kept phase pair) (match_ordering o (row ∷ first ∷ rows) (row ∷ rows) (first ∷ put_stored row rows))
+        ≡ match_ordering o (kept phase pair row ∷ map (kept phase pair) (first ∷ rows)) (kept phase pair row ∷ map (kept phase pair) rows) (kept phase pair first ∷ put_row (kept phase pair row) (map (kept phase pair) rows))
+    by_order Less there = refl
+    by_order Equal there = refl
+    by_order Greater there = ap (λ rest. kept phase pair first ∷ rest) there
+
+-- What holds of each row and of the new one holds of all.
+pub put_all_hold : (P : StoredRow → Type 0) (row : StoredRow) (rows : List StoredRow) → P row → AllByRecursion P rows → AllByRecursion P (put_stored row rows)
+put_all_hold P row [] p h = (p, tt)
+put_all_hold P row (first ∷ rows) p h = by_order (int_cmp row.key first.key) (put_all_hold P row rows p h.1)
+  where
+    by_order : (o : Ordering) → AllByRecursion P (put_stored row rows) → AllByRecursion P (match_ordering o (row ∷ first ∷ rows) (row ∷ rows) (first ∷ put_stored row rows))
+    by_order Less there = (p, h)
+    by_order Equal there = (p, h.1)
+    by_order Greater there = (h.0, there)

@@ -1,0 +1,2 @@
+pub mod CompletedRows
+pub mod WrittenRows

@@ -1,0 +1,83 @@
+-- What becomes of the stored rows of a table that both versions have, step by step from START until one version stands alone.
+--
+-- A migration begins with START. From then on both versions stand, and a row is stored as the triggers leave it. It is completed in three steps: C1 drops the old version's views, C2 removes the places that only the old version showed, and C3 puts the places in the order of the new version's columns. It is rolled back in two: B1 drops the new version's views, and B2 removes the places that only the new version showed. Between two steps rows are written by the version that stands. That completing removes the old columns and renames the new ones, and that rolling back removes the new ones, is pgroll's (its documentation, How pgroll works); the steps and the rest are our own.
+use Rattle.std.specs.Prelude.{ℕ, ◌+◌, Bool, ◌==◌, ◌||◌, false, true, List, [], ◌∷◌, ◌++◌, drop, filter, length, map, slice_index_or, take, if◌then◌else◌}
+use Rattle.sql_base.specs.declared.shapes.Shape.{Shape}
+use Rattle.sql_base.specs.declared.values.Value.{Value}
+use Rattle.sql_base.specs.declared.values.Value.TheVariants.{Null}
+use Rattle.mig_lens.specs.declared.columns.Cell.{Cell}
+use Rattle.mig_lens.specs.declared.columns.Cell.TheVariants.{Carry, Make, Still}
+use Rattle.mig_lens.specs.declared.columns.Lens.{Lens}
+use Rattle.mig_lens.specs.Layout.{has_mark, layout}
+use Rattle.mig_lens.specs.Lens.{is_carry}
+use Rattle.trigger_pair.specs.declared.pairs.Pair.{Pair}
+use Rattle.trigger_pair.specs.Stored.{begun, mark_value, old_view, shadow_values}
+
+abbrev pub pair_of : Shape → Shape → Lens → Pair
+pair_of old new lens = record { old = old; new = new; lens = lens; layout = layout old new lens }
+
+-- ---- the old columns leave
+
+-- The values of old columns that are carried, in old order.
+abbrev pub carried_of : Cell → Value → List Value
+carried_of (Carry at) value = value ∷ []
+carried_of (Make expr) value = []
+carried_of (Still constant) value = []
+
+abbrev pub carried_values : List Cell → List Value → List Value
+carried_values (cell ∷ cells) (value ∷ values) = carried_of cell value ++ carried_values cells values
+carried_values _ _ = []
+
+abbrev pub is_shadow : Cell → Bool
+is_shadow (Carry at) = false
+is_shadow (Make expr) = true
+is_shadow (Still value) = true
+
+-- The shadow values of a stored row, behind the old columns.
+abbrev pub shadows_in : Lens → List Value → List Value
+shadows_in lens row = take (length (filter is_shadow lens.new_cols)) (drop (length lens.old_cols) row)
+
+-- A stored row after C2: the carried values in old order, and then the shadow values.
+abbrev pub trimmed : Lens → List Value → List Value
+trimmed lens row = carried_values lens.old_cols row ++ shadows_in lens row
+
+-- The place of an old column among the carried ones.
+abbrev pub carried_before : List Cell → ℕ → ℕ
+carried_before cells at = length (filter is_carry (take at cells))
+
+-- The place of each new column in a row after C2. Those that aren't carried stand behind the others.
+abbrev pub trimmed_places : List Cell → ℕ → List Cell → List ℕ
+trimmed_places old_cols next [] = []
+trimmed_places old_cols next (Carry at ∷ cells) = carried_before old_cols at ∷ trimmed_places old_cols next cells
+trimmed_places old_cols next (Make expr ∷ cells) = next ∷ trimmed_places old_cols (next + 1) cells
+trimmed_places old_cols next (Still value ∷ cells) = next ∷ trimmed_places old_cols (next + 1) cells
+
+-- What the version that stands selects of a row after C2. It is the row after C3.
+abbrev pub trimmed_view : Lens → List Value → List Value
+trimmed_view lens row = map (λ at. slice_index_or row at Null) (trimmed_places lens.old_cols (length (filter is_carry lens.old_cols)) lens.new_cols)
+
+-- ---- a row that is written meanwhile
+
+-- An old column that isn't carried has no value in a row that is written after C1.
+abbrev pub leaving_value : List Value → Cell → Value
+leaving_value values (Carry at) = slice_index_or values at Null
+leaving_value values (Make expr) = Null
+leaving_value values (Still value) = Null
+
+-- The stored row of new values that are written between C1 and C2, where nothing was stored before: NULL in the places that the new version doesn't show, and not marked.
+abbrev pub leaving_row : Lens → List Value → List Value
+leaving_row lens values = map (leaving_value values) lens.old_cols ++ shadow_values lens.new_cols values ++ mark_value (has_mark lens) false
+
+-- ---- the steps
+
+-- The steps that change stored rows: START is 0, C2 is 2, C3 is 3 and B2 is 5. C1 and B1, which are 1 and 4, change no row.
+abbrev pub changes_rows : ℕ → Bool
+changes_rows step = step == 0 || step == 2 || step == 3 || step == 5
+
+-- A stored row after such a step, from the row before it. After B2 the old columns are left.
+abbrev pub restored : ℕ → Shape → Shape → Lens → List Value → List Value
+restored step old new lens row =
+    if step == 0 then begun (pair_of old new lens) row
+    else if step == 2 then trimmed lens row
+    else if step == 3 then trimmed_view lens row
+    else old_view (pair_of old new lens) row

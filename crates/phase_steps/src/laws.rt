@@ -1,0 +1,20 @@
+//! The laws of the steps. Each is the contract of a function that does nothing.
+ghost use Rattle.phase_steps.specs.Laws.{CompletedRowsShow, LeavingRowsShow, RolledBackRowsShow, TrimmingKeepsView};
+
+/// A row that is written between C1 and C2 shows the values that were written, and has a value for each place.
+pub fn leaving_rows_show_what_was_written()
+    ensures { LeavingRowsShow }
+{}
+
+/// C1, C2 and C3 change nothing that the new version shows: C1 leaves stored rows as they are, C2 keeps what the view
+/// selects, and after C3 a row is just that.
+pub fn completing_changes_no_view()
+    ensures trimmed { TrimmingKeepsView }
+    ensures ordered { CompletedRowsShow }
+{}
+
+/// B1 and B2 change nothing that the old version shows: B1 leaves stored rows as they are, and after B2 a row is just
+/// what its view selects.
+pub fn rolling_back_changes_no_view()
+    ensures { RolledBackRowsShow }
+{}

@@ -1,0 +1,12 @@
+//! What becomes of stored rows from the start of a migration until one version stands alone.
+#![tactic(auto)]
+
+mod cells;
+pub mod laws;
+mod leaving;
+mod steps;
+mod trimming;
+
+pub use leaving::leaving_row;
+pub use steps::restore;
+pub use trimming::{trimmed, trimmed_view};

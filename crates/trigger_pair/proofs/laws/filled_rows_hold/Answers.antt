@@ -1,0 +1,5 @@
+use Rattle.trigger_pair.proofs.Halves.{filled_rows_hold}
+use Rattle.trigger_pair.proofs.laws.filled_rows_hold.Goals as goal
+
+pub returns : goal.returns
+returns c = filled_rows_hold

@@ -1,0 +1,49 @@
+-- What holds of stored rows, whatever the pair and the rows are.
+use Rattle.std.specs.Prelude.{◌≡◌, Bool, true, false, List, Option, None, Ok, length}
+use Rattle.std.specs.Option.{option_map, option_and_then}
+use Rattle.sql_base.specs.declared.values.Value.{Value}
+use Rattle.sql_base.specs.Fit.{row_fits}
+use Rattle.sql_eval.specs.Shape.{WellFormed}
+use Rattle.mig_lens.specs.declared.columns.Side.TheVariants.{Old, New}
+use Rattle.mig_lens.specs.Layout.{layout}
+use Rattle.mig_lens.specs.Lens.{IsWellFormed, backward, fits, forward}
+use Rattle.trigger_pair.specs.declared.pairs.Pair.{Pair}
+use Rattle.trigger_pair.specs.Stored.{begun, begun_view, filled, fired, is_marked, new_half, new_view, old_view}
+
+-- A pair: two well-formed shapes, a lens that is well formed over them and fits them, and the layout that the three have.
+pub record IsPair (pair : Pair) : Type 0 where
+  pub old : WellFormed pair.old
+  pub new : WellFormed pair.new
+  pub fitting : fits pair.lens pair.old pair.new ≡ true
+  pub lens : IsWellFormed pair.lens pair.old pair.new
+  pub layout : pair.layout ≡ layout pair.old pair.new pair.lens
+
+-- A stored row shows these values through the two views, is marked or isn't, and has a value for each place of the layout.
+pub record Holds (pair : Pair) (old new : List Value) (marked : Bool) (stored : List Value) : Type 0 where
+  pub old_shown : old_view pair stored ≡ old
+  pub new_shown : new_view pair stored ≡ new
+  pub mark : is_marked pair stored ≡ marked
+  pub long : length stored ≡ length pair.layout.columns
+
+-- After a write through the old version the row holds the half that was written, and the new half that the lens makes of it and of the new half before, and isn't marked.
+abbrev pub OldWritesHold : Type 0
+OldWritesHold =
+    (pair : Pair) (half stored : List Value) (before : Option (List Value)) → IsPair pair → row_fits pair.old half ≡ true → fired pair Old half before ≡ Ok stored →
+    (made : List Value) × (forward pair.lens pair.old half (option_and_then (new_half pair) before) ≡ Ok made) × Holds pair half made false stored
+
+-- After a write through the new version it holds the half that was written, and the old half that the lens makes of it and of the old half before, and isn't marked.
+abbrev pub NewWritesHold : Type 0
+NewWritesHold =
+    (pair : Pair) (half stored : List Value) (before : Option (List Value)) → IsPair pair → row_fits pair.new half ≡ true → fired pair New half before ≡ Ok stored →
+    (made : List Value) × (backward pair.lens pair.new half (option_map (old_view pair) before) ≡ Ok made) × Holds pair made half false stored
+
+-- A filled row holds its old half as it was, and the new half that the lens makes of it without one before, and isn't marked.
+abbrev pub FilledRowsHold : Type 0
+FilledRowsHold =
+    (pair : Pair) (before stored : List Value) → IsPair pair → row_fits pair.old (old_view pair before) ≡ true → filled pair before ≡ Ok stored →
+    (made : List Value) × (forward pair.lens pair.old (old_view pair before) None ≡ Ok made) × Holds pair (old_view pair before) made false stored
+
+-- A row that START leaves holds its values as its old half, shows through the new view what a row shows that is still to be filled, and is marked exactly where its table has a mark.
+abbrev pub BegunRowsHold : Type 0
+BegunRowsHold =
+    (pair : Pair) (old : List Value) → IsPair pair → row_fits pair.old old ≡ true → Holds pair old (begun_view pair old) pair.layout.mark (begun pair old)

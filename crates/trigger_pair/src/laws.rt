@@ -1,0 +1,22 @@
+//! The laws of stored rows. Each is the contract of a function that does nothing.
+ghost use Rattle.trigger_pair.specs.Laws.{BegunRowsHold, FilledRowsHold, NewWritesHold, OldWritesHold};
+
+/// After a write through a version the stored row shows through that version the half that was written, and through the
+/// other one what the lens makes of it and of the other half before. It isn't marked, and has a value for each place.
+pub fn writes_hold()
+    ensures old { OldWritesHold }
+    ensures new { NewWritesHold }
+{}
+
+/// A filled row shows its old half as it was, and the new half that the lens makes of it without one before. It isn't
+/// marked, and has a value for each place.
+pub fn filled_rows_hold()
+    ensures { FilledRowsHold }
+{}
+
+/// A row that START leaves shows its values through the old version, and through the new one carried values, constants,
+/// and NULL for what is still to be made. It is marked exactly where the layout has a mark, and has a value for each
+/// place.
+pub fn begun_rows_hold()
+    ensures { BegunRowsHold }
+{}
