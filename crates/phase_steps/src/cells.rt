@@ -1,5 +1,5 @@
 //! The cells of a lens: which are carried, and which have a place of their own.
-ghost use Rattle.std.specs.Prelude.{◌≡◌, filter, length};
+ghost use Rattle.std.specs.Prelude.{◌≡◌, ◌≤◌, filter, length};
 ghost use Rattle.mig_lens.specs.Layout as layouts;
 ghost use Rattle.mig_lens.specs.Lens as lenses;
 ghost use Rattle.phase_steps.specs.Rows as spec;
@@ -40,14 +40,29 @@ pub(crate) fn has_mark(lens: &Lens) -> bool
     lens.new_cols.as_slice().iter().any(|cell| is_make(cell))
 }
 
+/// How many of these columns are carried.
 pub(crate) fn carried_count(cells: &[Cell]) -> usize
-    ensures { result ≡ length (filter lenses.is_carry cells.now) }
+    ensures count { result ≡ length (filter lenses.is_carry cells.now) }
+    ensures few { result ≤ length cells.now }
 {
-    cells.iter().filter(|cell| is_carry(cell)).count()
+    let mut count = 0;
+    for cell in cells {
+        if is_carry(cell) {
+            count += 1;
+        }
+    }
+    count
 }
 
+/// How many of these columns have a place of their own.
 pub(crate) fn shadow_count(cells: &[Cell]) -> usize
     ensures { result ≡ length (filter spec.is_shadow cells.now) }
 {
-    cells.iter().filter(|cell| is_shadow(cell)).count()
+    let mut count = 0;
+    for cell in cells {
+        if is_shadow(cell) {
+            count += 1;
+        }
+    }
+    count
 }

@@ -5,6 +5,8 @@ mod cells;
 pub mod laws;
 mod leaving;
 mod steps;
+#[cfg(test)]
+mod tests;
 mod trimming;
 
 pub use leaving::leaving_row;

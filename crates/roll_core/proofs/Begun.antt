@@ -95,13 +95,13 @@ table_begun law s t fates table h =
     let g : Option Lens → ℕ × List Kept = λ lens. option_map_or {U = ℕ × List Kept} (λ lens. (table.number, map (begun_row lens) (map (kept Alone table.pair) table.rows))) lens (table.number, map (kept Alone table.pair) table.rows) in
     ap f (ap (option_map pair_over) h.is) ∙ ap (λ (rs : List Kept). (table.number, rs)) rows ∙ ap g (sym h.lens)
 
-table_is_stored : BegunRowsHold → (s t : State) (fates : List (ℕ × Fate)) → phase_of t ≡ Paired → (table : StoredTable) → Begins s t fates table → IsStoredTable t (begun_table t table)
-table_is_stored law s t fates p table h =
+table_is_stored : BegunRowsHold → (s t u : State) (fates : List (ℕ × Fate)) → ((number : ℕ) → shared u number ≡ shared t number) → phase_of u ≡ Paired → (table : StoredTable) → Begins s t fates table → IsStoredTable u (begun_table u table)
+table_is_stored law s t u fates same p table h =
     let rows = (rows_begun law s table.number h.both table.pair table.rows h.is_pair h.on_old h.stand).1 in
-    let pair : option_map pair_over (shared t table.number) ≡ Some (pair_over h.both) = ap (option_map pair_over) h.is in
+    let pair : option_map pair_over (shared u table.number) ≡ Some (pair_over h.both) = ap (option_map pair_over) (same table.number ∙ h.is) in
     record {
-      pair = subst (λ ph. HasPair ph t (begun_table t table)) (sym p) refl;
-      rows = subst (λ ph. AllByRecursion (IsStoredRow ph (option_map pair_over (shared t table.number))) (map (begun_stored (option_map pair_over (shared t table.number))) table.rows)) (sym p)
+      pair = subst (λ ph. HasPair ph u (begun_table u table)) (sym p) refl;
+      rows = subst (λ ph. AllByRecursion (IsStoredRow ph (option_map pair_over (shared u table.number))) (map (begun_stored (option_map pair_over (shared u table.number))) table.rows)) (sym p)
           (subst (λ (o : Option Pair). AllByRecursion (IsStoredRow Paired o) (map (begun_stored o) table.rows)) (sym pair) rows);
     }
 
@@ -110,9 +110,9 @@ tables_begun law s t fates [] h = refl
 tables_begun law s t fates (table ∷ ts) h =
     ap (λ (m : ℕ × List Kept). m ∷ map (table_meant Paired) (map (begun_table t) ts)) (table_begun law s t fates table h.0) ∙ ap (λ (ms : List (ℕ × List Kept)). begun_rows fates (table_meant Alone table) ∷ ms) (tables_begun law s t fates ts h.1)
 
-tables_are_stored : BegunRowsHold → (s t : State) (fates : List (ℕ × Fate)) → phase_of t ≡ Paired → (ts : List StoredTable) → AllByRecursion (Begins s t fates) ts → AllByRecursion (IsStoredTable t) (map (begun_table t) ts)
-tables_are_stored law s t fates p [] h = tt
-tables_are_stored law s t fates p (table ∷ ts) h = (table_is_stored law s t fates p table h.0, tables_are_stored law s t fates p ts h.1)
+tables_are_stored : BegunRowsHold → (s t u : State) (fates : List (ℕ × Fate)) → ((number : ℕ) → shared u number ≡ shared t number) → phase_of u ≡ Paired → (ts : List StoredTable) → AllByRecursion (Begins s t fates) ts → AllByRecursion (IsStoredTable u) (map (begun_table u) ts)
+tables_are_stored law s t u fates same p [] h = tt
+tables_are_stored law s t u fates same p (table ∷ ts) h = (table_is_stored law s t u fates same p table h.0, tables_are_stored law s t u fates same p ts h.1)
 
 -- ---- each table
 
@@ -185,7 +185,7 @@ started_by law frame store name plan stored p stands =
     let tables = tables_begun law s t plan.fates store each in
     record {
       means = ap (λ (ts : List (ℕ × List Kept)). record t { tables = ts }) (tables ∙ ap (λ (ph : Phase). map (begun_rows plan.fates) (map (table_meant ph) store)) (sym p));
-      stored = tables_are_stored law s (frame_of t) plan.fates refl store each;
+      stored = tables_are_stored law s t (frame_of t) plan.fates (λ number. refl) refl store each;
     }
 
 -- The machine's START leaves what the rows mean that the engine's leaves.

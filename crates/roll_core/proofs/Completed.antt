@@ -1,6 +1,7 @@
 -- The steps of completing leave stored rows that mean what the machine leaves.
 use Rattle.std.proofs.Common.{arith, ◌≡◌, ◌⊎◌, ◌≤◌, ◌<◌, ℕ, zero, suc, ℤ, List, [], ◌∷◌, length, map, filter, refl, ap, sym, subst, ◌∙◌, Bool, true, false, ◌==◌, ◌||◌, cond, Option, Some, None, Result, Ok, Err, inl, inr, is_none, is_some, option_map, if◌then◌else◌}
 use Rattle.std.specs.Prelude.{nat_eq}
+use Rattle.std.proofs.lemmas.Bool.Decides.{nat_tests}
 use Rattle.std.specs.List.{AllByRecursion, list_all, list_any}
 use Rattle.std.specs.Option.{option_and_then, option_map_or, option_or}
 use Rattle.sql_base.specs.declared.shapes.Schema.{Schema}
@@ -71,13 +72,14 @@ none_in s number both e h =
 -- no row of a table is marked
 unmarked : (pair : Pair) (rows : List StoredRow) → map {A = Kept} (λ row. row.key) (filter (λ row. is_none row.halves.new) (map (kept Paired (Some pair)) rows)) ≡ [] → AllByRecursion (λ row. is_marked pair row.values ≡ false) rows
 unmarked pair [] h = tt
-unmarked pair (row ∷ rows) h = by_mark (is_marked pair row.values) refl h
+unmarked pair (row ∷ rows) h = by_mark (unmarked pair rows) (is_marked pair row.values) refl h
   where
-    by_mark : (b : Bool) → is_marked pair row.values ≡ b
+    by_mark : (map {A = Kept} (λ row. row.key) (filter (λ row. is_none row.halves.new) (map (kept Paired (Some pair)) rows)) ≡ [] → AllByRecursion (λ row. is_marked pair row.values ≡ false) rows)
+        → (b : Bool) → is_marked pair row.values ≡ b
         → map {A = Kept} (λ row. row.key) (cond (is_none (if◌then◌else◌ {A = Option (List Value)} b None (Some (new_view pair row.values)))) (kept Paired (Some pair) row ∷ filter (λ row. is_none row.halves.new) (map (kept Paired (Some pair)) rows)) (filter (λ row. is_none row.halves.new) (map (kept Paired (Some pair)) rows))) ≡ []
         → (is_marked pair row.values ≡ false) × AllByRecursion (λ row. is_marked pair row.values ≡ false) rows
-    by_mark true e h = cc
-    by_mark false e h = (e, unmarked pair rows h)
+    by_mark there true e h = cc
+    by_mark there false e h = (e, there h)
 
 -- the new half of such a row stays
 row_stays : (pair : Pair) (row : StoredRow) → is_marked pair row.values ≡ false → completed_row (kept Paired (Some pair) row) ≡ kept Leaving (Some pair) row
@@ -91,14 +93,14 @@ rows_stay pair (row ∷ rows) h =
     ap (λ (k : Kept). k ∷ map completed_row (map (kept Paired (Some pair)) rows)) (row_stays pair row h.0) ∙ ap (λ (rs : List Kept). kept Leaving (Some pair) row ∷ rs) (rows_stay pair rows h.1)
 
 -- What holds of a table that stays.
-record Stays (s : State) (schema : Schema) (table : StoredTable) : Type 0 where
-  both : Shared
-  is : shared s table.number ≡ Some both
-  has : table.pair ≡ Some (pair_over both)
-  is_pair : IsPair (pair_over both)
-  new : shape_numbered schema table.number ≡ Some (shape_of both.new)
-  filled : map (λ row. row.key) (filter (λ row. is_none row.halves.new) (rows_of s table.number)) ≡ []
-  rows : rows_of s table.number ≡ map (kept Paired table.pair) table.rows
+pub record Stays (s : State) (schema : Schema) (table : StoredTable) : Type 0 where
+  pub both : Shared
+  pub is : shared s table.number ≡ Some both
+  pub has : table.pair ≡ Some (pair_over both)
+  pub is_pair : IsPair (pair_over both)
+  pub new : shape_numbered schema table.number ≡ Some (shape_of both.new)
+  pub filled : map (λ row. row.key) (filter (λ row. is_none row.halves.new) (rows_of s table.number)) ≡ []
+  pub rows : rows_of s table.number ≡ map (kept Paired table.pair) table.rows
 
 table_stays : (s : State) (schema : Schema) (table : StoredTable) → Stays s schema table → (table.number, map completed_row (map (kept Paired table.pair) table.rows)) ≡ table_meant Leaving table
 table_stays s schema table h =
@@ -341,6 +343,10 @@ pub record IsTidied (frame : State) (store : List StoredTable) (reply : Reply) (
   pub is : complete (meaning frame store) ≡ Ok (reply, meaning t new)
   pub stored : AreStored t new
 
+-- whether it is the second step or the third
+abbrev tidied_by : State → Bool → CommandOutcome
+tidied_by s two = Ok (if two then (reply_of.Complete 2, record s { left = 1 }) else (reply_of.Complete 3, record s { left = 0; kind = kind.Nothing }))
+
 tidied_is : (s : State) → s.kind ≡ kind.Complete → complete s ≡ Ok (tidied s)
 tidied_is s k = rw k refl
 
@@ -354,7 +360,7 @@ second_step law frame store stored k l =
     let tables : map (table_meant (phase_of frame)) store ≡ map (table_meant (phase_of t)) (map trimmed_table store) =
         ap (λ (ph : Phase). map (table_meant ph) store) p ∙ sym (trimmed_tables_are law frame p store stored.tables) ∙ ap (λ (ph : Phase). map (table_meant ph) (map trimmed_table store)) (sym q) in
     record {
-      is = tidied_is s k ∙ rw l (ap (λ (ts : List (ℕ × List Kept)). Ok (reply_of.Complete 2, record t { tables = ts })) tables);
+      is = tidied_is s k ∙ ap (tidied_by s) (ap (λ n. n == 2) l) ∙ ap (λ (ts : List (ℕ × List Kept)). Ok (reply_of.Complete 2, record t { tables = ts })) tables;
       stored = trimmed_are_stored frame t p q refl store stored.tables;
     }
 
@@ -373,6 +379,13 @@ third_step frame store stored k l =
     let tables : map (table_meant (phase_of frame)) store ≡ map (table_meant (phase_of t)) (map ordered_table store) =
         ap (λ (ph : Phase). map (table_meant ph) store) p ∙ sym (ordered_tables_are store) ∙ ap (λ (ph : Phase). map (table_meant ph) (map ordered_table store)) (sym q) in
     record {
-      is = tidied_is s k ∙ rw l (ap (λ (ts : List (ℕ × List Kept)). Ok (reply_of.Complete 3, record t { tables = ts })) tables);
+      is = tidied_is s k ∙ ap (tidied_by s) l ∙ ap (λ (ts : List (ℕ × List Kept)). Ok (reply_of.Complete 3, record t { tables = ts })) tables;
       stored = ordered_are_stored t q store;
     }
+
+pub not_two : (n : ℕ) → (n ≡ 2 → ⊥) → (n == 2) ≡ false
+not_two n h = by_test (n == 2) refl
+  where
+    by_test : (b : Bool) → (n == 2) ≡ b → b ≡ false
+    by_test true e = absurd (h (grind (arith, nat_tests)))
+    by_test false e = refl

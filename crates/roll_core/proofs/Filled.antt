@@ -271,7 +271,7 @@ filled_outcome frame store table name (Err cause) = Err (refused_batch name caus
 filled_outcome frame store table name (Ok new) =
     without (option_map (refused_batch name) (filled_clash frame table new)) (batch_reply name (fill.keys_of new), meaning frame (slice_set store (table_place table.number store) (with_all table new)))
 
-keys_kept : (phase : Phase) (pair : Option Pair) (rows : List StoredRow) → keys_of (map (kept phase pair) rows) ≡ fill.keys_of rows
+pub keys_kept : (phase : Phase) (pair : Option Pair) (rows : List StoredRow) → keys_of (map (kept phase pair) rows) ≡ fill.keys_of rows
 keys_kept phase pair [] = refl
 keys_kept phase pair (row ∷ rows) = ap (λ keys. row.key ∷ keys) (keys_kept phase pair rows)
 
@@ -411,3 +411,20 @@ filled_few table n new e =
 pub put_all_stored : (P : StoredRow → Type 0) (new rows : List StoredRow) → AllByRecursion P new → AllByRecursion P rows → AllByRecursion P (put_all new rows)
 put_all_stored P [] rows n h = h
 put_all_stored P (row ∷ new) rows n h = put_all_stored P new (put_stored row rows) n.1 (put_all_hold P row rows n.0 h)
+
+-- ---- one row after another
+
+-- One row is put.
+pub put_step : (row : StoredRow) (rows items rest new wanted : List StoredRow) → items ≡ row ∷ rest → new ≡ put_stored row rows → RowsAscend rows → HasAll rows items → put_all items rows ≡ wanted → RowsAscend new × HasAll new rest × (put_all rest new ≡ wanted)
+put_step row rows items rest new wanted e is a all h =
+    let there = subst (HasAll rows) e all in
+    subst (λ (rs : List StoredRow). RowsAscend rs × HasAll rs rest × (put_all rest rs ≡ wanted)) (sym is)
+    (ascend_put row rows a, has_all_put row rows rest a there.0 there.1, ap (λ (is : List StoredRow). put_all is rows) (sym e) ∙ h)
+
+pub put_next : (row : StoredRow) (rows items rest : List StoredRow) → items ≡ row ∷ rest → HasAll rows items → has_key row.key (map bare rows) ≡ true
+put_next row rows items rest e all = (subst (HasAll rows) e all).0
+
+-- None is left.
+pub put_end : (items rows wanted : List StoredRow) (len : ℕ) → len ≡ 0 → len ≡ length items → put_all items rows ≡ wanted → rows ≡ wanted
+put_end [] rows wanted len e l h = h
+put_end (row ∷ items) rows wanted len e l h = absurd (omega arith)

@@ -1,5 +1,5 @@
 -- The table that a batch takes.
-use Rattle.std.proofs.Common.{arith, ◌≡◌, ◌≤◌, ◌<◌, ℕ, zero, suc, ℤ, List, [], ◌∷◌, length, map, take, filter, find, refl, ap, sym, subst, ◌∙◌, Bool, true, false, ◌||◌, ◌==◌, cond, Option, Some, None, Ok, is_none, nat_lt, option_map, if◌then◌else◌, get_or}
+use Rattle.std.proofs.Common.{arith, ◌≡◌, ◌≢◌, ◌≤◌, ◌<◌, ℕ, zero, suc, ℤ, List, [], ◌∷◌, length, map, take, filter, find, refl, ap, sym, subst, ◌∙◌, Bool, true, false, ◌||◌, ◌==◌, cond, Option, Some, None, Ok, is_none, nat_lt, option_map, if◌then◌else◌, get_or}
 use Rattle.std.specs.Prelude.{slice_get}
 use Rattle.std.specs.List.{AllByRecursion, list_any}
 use Rattle.std.specs.Option.{option_map_or, option_or}
@@ -39,7 +39,8 @@ read_at [] at x h e = absurd (omega arith)
 read_at (first ∷ xs) zero x h e = ap Some (sym e)
 read_at (first ∷ xs) (suc at) x h e = read_at xs at x (omega arith) e
 
-each_mapped : {A B : Type 0} (P : B → Type 0) (f : A → B) (xs : List A) → AllByRecursion P (map f xs) → AllByRecursion (λ x. P (f x)) xs
+-- What holds of each image holds of each.
+pub each_mapped : {A B : Type 0} (P : B → Type 0) (f : A → B) (xs : List A) → AllByRecursion P (map f xs) → AllByRecursion (λ x. P (f x)) xs
 each_mapped P f [] h = tt
 each_mapped P f (x ∷ xs) h = (h.0, each_mapped P f xs h.1)
 
@@ -89,7 +90,8 @@ missing_by table (Some both) phase p h =
 
 -- ---- each table
 
-rows_each : (frame : State) (store : List StoredTable) → NumbersAscend (numbers_of (meaning frame store)) → AllByRecursion (λ table. rows_of (meaning frame store) table.number ≡ rows_meant (phase_of frame) table) store
+-- The rows of each table.
+pub rows_each : (frame : State) (store : List StoredTable) → NumbersAscend (numbers_of (meaning frame store)) → AllByRecursion (λ table. rows_of (meaning frame store) table.number ≡ rows_meant (phase_of frame) table) store
 rows_each frame store a =
     let tables = map (table_meant (phase_of frame)) store in
     let found = each_mapped (λ (t : ℕ × List Kept). find (λ other. other.0 == t.0) tables ≡ Some t) (table_meant (phase_of frame)) store (each_found tables a) in
@@ -181,3 +183,14 @@ fills_table law frame store both at table stored p e is =
       stand = subst (RowsStand s number) rows stand.1;
       ascend = ascend_bare (phase_of frame) table.pair table.rows (subst Ascends rows stand.0);
     }
+
+left_upto : (store : List StoredTable) → left_place store ≤ length store
+left_upto [] = omega arith
+left_upto (table ∷ store) = by_test (has_left table) (left_upto store)
+  where
+    by_test : (b : Bool) → left_place store ≤ length store → (if b then 0 else suc (left_place store)) ≤ suc (length store)
+    by_test true there = omega arith
+    by_test false there = omega arith
+
+pub left_within : (store : List StoredTable) (at : ℕ) → at ≡ left_place store → (at ≡ length store → ⊥) → at < length store
+left_within store at e more = let upto = left_upto store in let apart : at ≢ length store = more in omega (arith, e, upto, apart)

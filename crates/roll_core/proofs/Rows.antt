@@ -64,9 +64,9 @@ place_upto key [] at other e g = cc
 place_upto key (row ∷ rows) zero other e g = by_order (int_cmp key row.key) (λ k. g (subst (λ (r : StoredRow). int_cmp key r.key ≡ Greater) (same_some row other e) k))
   where
     by_order : (o : Ordering) → (o ≡ Greater → ⊥) → match_ordering o 0 0 (suc (place key rows)) ≤ 0
-    by_order Less no = omega arith
-    by_order Equal no = omega arith
-    by_order Greater no = absurd (no refl)
+    by_order Less never = omega arith
+    by_order Equal never = omega arith
+    by_order Greater never = absurd (never refl)
 place_upto key (row ∷ rows) (suc at) other e g = by_order (int_cmp key row.key) (place_upto key rows at other e g)
   where
     by_order : (o : Ordering) → place key rows ≤ at → match_ordering o 0 0 (suc (place key rows)) ≤ suc at

@@ -101,7 +101,8 @@ below_place first [] at table a e = cc
 below_place first (next ∷ store) zero table a e = let same : next ≡ table = cc in subst (λ (t : StoredTable). first < t.number) same a.0
 below_place first (next ∷ store) (suc at) table a e = let more = below_place next.number store at table a.1 e in let less = a.0 in omega arith
 
-place_is : (store : List StoredTable) (at : ℕ) (table : StoredTable) → NumbersAscend (stored_numbers store) → slice_get store at ≡ Some table → (table_place table.number store ≡ at) × (at < length store)
+-- The place of a table's number is its own.
+pub place_is : (store : List StoredTable) (at : ℕ) (table : StoredTable) → NumbersAscend (stored_numbers store) → slice_get store at ≡ Some table → (table_place table.number store ≡ at) × (at < length store)
 place_is [] at table a e = cc
 place_is (first ∷ store) zero table a e =
     let same : first ≡ table = cc in

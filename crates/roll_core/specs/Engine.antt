@@ -7,7 +7,7 @@ use Rattle.machine.specs.declared.states.State.{State}
 use Rattle.machine.specs.declared.stops.Stop.{Stop}
 use Rattle.machine.specs.declared.stops.Stop.TheVariants.{Because, NoMemory}
 use Rattle.machine.specs.Migrate.{CommandOutcome, complete, start}
-use Rattle.machine.specs.Statement.{Outcome}
+use Rattle.machine.specs.Statement.{Outcome, no_memory}
 use Rattle.machine.specs.Step.{ComesTo, FindsNoMemory}
 use Rattle.roll_core.specs.declared.commands.Cmd.{Cmd}
 use Rattle.roll_core.specs.declared.commands.Cmd.TheVariants.{Start, Complete}
@@ -31,3 +31,9 @@ Answers s outcome (Err NoMemory) t = t ≡ s
 -- The reply is what the event comes to, with the state after it; or want of memory, and nothing changed.
 abbrev pub ComesToOrNoMemory : State → Outcome → Reply → State → Type 0
 ComesToOrNoMemory s outcome reply t = ComesTo s outcome reply t ⊎ FindsNoMemory s reply t
+
+-- The reply that an answer is.
+abbrev pub reply_of : Result Reply (Stop Reply) → Reply
+reply_of (Ok reply) = reply
+reply_of (Err (Because reply)) = reply
+reply_of (Err NoMemory) = no_memory

@@ -140,7 +140,28 @@ fn kept_rows(
 }
 
 // Why the filled rows aren't accepted among the others of their table through a unique constraint of either version.
-// (Where there is none, no row is looked at.)
+fn clash_among(
+    alloc: Global,
+    frame: &State,
+    table: &StoredTable,
+    filled: &[StoredRow],
+) -> Result<Option<Cause>, NoMemory>
+    ensures { IfOk result (λ cause. cause ≡ spec.filled_clash frame.now table.now filled.now) }
+{
+    let older = rows_meant(alloc, phase_of(frame), table)?;
+    let new = kept_rows(alloc, frame, table, filled)?;
+    let all = put_rows(alloc, new.as_slice(), older.as_slice())?;
+    clashes(
+        alloc,
+        frame,
+        Side::New,
+        table.number,
+        all.as_slice(),
+        new.as_slice(),
+    )
+}
+
+// The same. Where there is no such constraint, no row is looked at.
 fn clash(
     alloc: Global,
     frame: &State,
@@ -149,15 +170,13 @@ fn clash(
 ) -> Result<Option<Cause>, NoMemory>
     ensures { IfOk result (λ cause. cause ≡ spec.filled_clash frame.now table.now filled.now) }
 {
-    if !has_uniques(table_on(frame, Side::Old, table.number))
-        && !has_uniques(table_on(frame, Side::New, table.number))
+    let number = table.number;
+    if has_uniques(table_on(frame, Side::Old, number))
+        || has_uniques(table_on(frame, Side::New, number))
     {
-        return Ok(None);
+        return clash_among(alloc, frame, table, filled);
     }
-    let older = rows_meant(alloc, phase_of(frame), table)?;
-    let new = kept_rows(alloc, frame, table, filled)?;
-    let all = put_rows(alloc, new.as_slice(), older.as_slice())?;
-    clashes(alloc, frame, Side::New, table.number, all.as_slice(), new.as_slice())
+    Ok(None)
 }
 
 // The key of the last of these rows, which come after a first one.
@@ -218,10 +237,11 @@ fn batch(
     n: u32,
 ) -> Result<Reply, Stop<Reply>>
     requires stored { model.IsStored frame.now tables.old }
-    requires filling { spec.IsFilling frame.now tables.old (plain.pair both.entry) at }
+    requires filling { spec.IsFilling frame.now tables.old (plain.pair both) at }
     ensures answers { engine.Answers (model.meaning frame.now tables.old) (as_outcome (spec.batch_of (model.meaning frame.now tables.old) (plain.pair both.entry) n)) result (model.meaning frame.now tables.new) }
     ensures stored { model.AreStored frame.now tables.new }
 {
+    trigger_pair::laws::writes_hold();
     trigger_pair::laws::filled_rows_hold();
     let name = &both.new.0;
     let filled = match filled_rows(alloc, frame, &tables[at], n) {

@@ -47,6 +47,17 @@ impl Model for Core {
     ghost invariant = { λ core. IsStored core.frame core.tables.items };
 }
 
+// The reply that an answer is.
+fn replied(answer: Result<Reply, Stop<Reply>>) -> Reply
+    ensures { result ≡ engine.reply_of answer }
+{
+    match answer {
+        Ok(reply) => reply,
+        Err(Stop::Because(reply)) => reply,
+        Err(Stop::NoMemory) => no_memory(),
+    }
+}
+
 impl Core {
     ghost use Rattle.machine.specs.Step.{Step, as_outcome};
 
@@ -77,11 +88,13 @@ impl Core {
     {
         machine::laws::refusals_change_nothing();
         machine::laws::states_stand();
-        match answer(self.alloc, &self.frame, &mut self.tables, path, stmt) {
-            Ok(reply) => reply,
-            Err(Stop::Because(reply)) => reply,
-            Err(Stop::NoMemory) => no_memory(),
-        }
+        replied(answer(
+            self.alloc,
+            &self.frame,
+            &mut self.tables,
+            path,
+            stmt,
+        ))
     }
 
     /// A batch of at most so many rows is filled: one step of the machine, and just the one that one lane takes. It takes
@@ -93,11 +106,7 @@ impl Core {
     {
         machine::laws::plain_steps_are_steps();
         machine::laws::states_stand();
-        match least_fill(self.alloc, &self.frame, &mut self.tables, n) {
-            Ok(reply) => reply,
-            Err(Stop::Because(reply)) => reply,
-            Err(Stop::NoMemory) => no_memory(),
-        }
+        replied(least_fill(self.alloc, &self.frame, &mut self.tables, n))
     }
 
     /// A command of a migration is one step of the machine. An error is want of memory, and then the engine is as it was.

@@ -120,8 +120,32 @@ pub fn has_uniques(table: Option<&Table>) -> bool
     }
 }
 
-// Why the row isn't accepted among the others of its table through a unique constraint of either version. (Where there
-// is none, no row is looked at.)
+// Why the row isn't accepted among the others of its table through a unique constraint of either version.
+fn clash_among(
+    alloc: Global,
+    frame: &State,
+    table: &StoredTable,
+    found: FoundTable<'_>,
+    row: &StoredRow,
+) -> Result<Option<Cause>, NoMemory>
+    ensures { IfOk result (λ cause. cause ≡ spec.stored_clash frame.now table.now (plain.found found.entry) row.now) }
+{
+    let phase = phase_of(frame);
+    let older = rows_meant(alloc, phase, table)?;
+    let mut new = List::new(alloc);
+    new.push(kept(alloc, phase, &table.pair, row)?)?;
+    let all = put_rows(alloc, new.as_slice(), older.as_slice())?;
+    clashes(
+        alloc,
+        frame,
+        found.side,
+        found.table.1,
+        all.as_slice(),
+        new.as_slice(),
+    )
+}
+
+// The same. Where there is no such constraint, no row is looked at.
 fn clash(
     alloc: Global,
     frame: &State,
@@ -132,17 +156,12 @@ fn clash(
     ensures { IfOk result (λ cause. cause ≡ spec.stored_clash frame.now table.now (plain.found found.entry) row.now) }
 {
     let number = found.table.1;
-    if !has_uniques(table_on(frame, Side::Old, number))
-        && !has_uniques(table_on(frame, Side::New, number))
+    if has_uniques(table_on(frame, Side::Old, number))
+        || has_uniques(table_on(frame, Side::New, number))
     {
-        return Ok(None);
+        return clash_among(alloc, frame, table, found, row);
     }
-    let phase = phase_of(frame);
-    let older = rows_meant(alloc, phase, table)?;
-    let mut new = List::new(alloc);
-    new.push(kept(alloc, phase, &table.pair, row)?)?;
-    let all = put_rows(alloc, new.as_slice(), older.as_slice())?;
-    clashes(alloc, frame, found.side, number, all.as_slice(), new.as_slice())
+    Ok(None)
 }
 
 // Why the row isn't accepted beside those that are there.
@@ -189,7 +208,7 @@ fn write_row(
     row: StoredRow,
 ) -> Result<Reply, Stop<Reply>>
     requires stored { model.IsStored frame.now tables.old }
-    requires found { spec.IsAt frame.now tables.old (plain.found found.entry) at }
+    requires found { spec.IsAt frame.now tables.old (plain.found found) at }
     requires fit { spec.RowIsStored frame.now (spec.pair_at at tables.old) row }
     ensures answers { engine.Answers (model.meaning frame.now tables.old) (statement.written (model.meaning frame.now tables.old) (plain.found found.entry) (model.kept (model.phase_of frame.now) (spec.pair_at at tables.old) row ∷ [])) result (model.meaning frame.now tables.new) }
     ensures stored { model.AreStored frame.now tables.new }
@@ -214,8 +233,8 @@ fn write(
     values: List<Value>,
 ) -> Result<Reply, Stop<Reply>>
     requires stored { model.IsStored frame.now tables.old }
-    requires found { spec.IsOnSide frame.now (plain.found found.entry) }
-    requires fit { row_fits (state.shape_of found.entry.table.now) values ≡ true }
+    requires found { spec.IsOnSide frame.now (plain.found found) }
+    requires fit { row_fits (state.shape_of found.table.now) values ≡ true }
     ensures answers { engine.Answers (model.meaning frame.now tables.old) (statement.write (model.meaning frame.now tables.old) (plain.found found.entry) (values ∷ [])) result (model.meaning frame.now tables.new) }
     ensures stored { model.AreStored frame.now tables.new }
 {
@@ -239,7 +258,7 @@ fn insert_into(
     rows: &[List<Expr>],
 ) -> Result<Reply, Stop<Reply>>
     requires stored { model.IsStored frame.now tables.old }
-    requires found { spec.IsOnSide frame.now (plain.found found.entry) }
+    requires found { spec.IsOnSide frame.now (plain.found found) }
     ensures answers { engine.Answers (model.meaning frame.now tables.old) (statement.insert_into (model.meaning frame.now tables.old) names.now rows.now (plain.found found.entry)) result (model.meaning frame.now tables.new) }
     ensures stored { model.AreStored frame.now tables.new }
 {

@@ -1,10 +1,12 @@
 //! Places of rows and tables.
 ghost use Rattle.std.specs.Prelude.{◌≡◌, ◌<◌, ◌≤◌, ◌-◌, ◌^◌, true, false, OnOk, OnErr, length, map, min};
+ghost use Rattle.std.specs.Ordering.{int_eq};
 ghost use Rattle.machine.specs.Accept as accept;
 ghost use Rattle.roll_core.specs.Store as spec;
 
 use crate::store::{Rows, StoredRow, StoredTable};
 use sql_base::NoMemory;
+use sqlite_items::at;
 use std::cmp::Ordering;
 
 /// The number of rows at the front that have lesser keys than this row.
@@ -24,13 +26,19 @@ fn place(rows: &[StoredRow], row: &StoredRow) -> usize
     low
 }
 
+fn same_key(one: &StoredRow, other: &StoredRow) -> bool
+    ensures { result ≡ int_eq one.now.key other.now.key }
+{
+    one.key == other.key
+}
+
 /// Whether one of these rows, which ascend by key, has the key of this row.
 pub fn has_key(rows: &[StoredRow], row: &StoredRow) -> bool
     requires { spec.RowsAscend rows.now }
     ensures { result ≡ accept.has_key row.now.key (map spec.bare rows.now) }
 {
-    match rows.get(place(rows, row)) {
-        Some(other) => row.key == other.key,
+    match at(rows, place(rows, row)) {
+        Some(other) => same_key(row, other),
         None => false,
     }
 }

@@ -97,7 +97,7 @@ fn select_from(
     items: &Items,
 ) -> Result<Reply, Stop<Reply>>
     requires stored { model.IsStored frame.now tables.now }
-    requires found { spec.IsOnSide frame.now (plain.found found.entry) }
+    requires found { spec.IsOnSide frame.now (plain.found found) }
     ensures { engine.Answers (model.meaning frame.now tables.now) (statement.select_from (model.meaning frame.now tables.now) items.now (plain.found found.entry)) result (model.meaning frame.now tables.now) }
 {
     trigger_pair::laws::begun_rows_hold();
