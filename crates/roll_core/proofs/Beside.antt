@@ -85,11 +85,11 @@ written_stored frame store found row stored f =
     let all = put_row k older in
     let rows = rows_of-here frame number store f.table f.is_here in
     let key : key_cause found.table older (k ∷ []) ≡ (if has_key row.key (map bare f.table.rows) then Some (taken_key found.table row.key) else None) =
-        key_cause-one found.table k older ∙ ap (λ b. if b then Some (taken_key found.table row.key) else None) (has_key-kept phase f.table.pair row.key f.table.rows) in
+    key_cause-one found.table k older ∙ ap (λ b. if b then Some (taken_key found.table row.key) else None) (has_key-kept phase f.table.pair row.key f.table.rows) in
     let clash = clashes-meaning frame store found.side number all (row.key ∷ []) in
     let count : nat_lt max_rows (row_count s + 1) ≡ is_full store = ap (λ n. nat_lt max_rows (n + 1)) (row_count-meaning frame store) ∙ full_one (stored_count store) max_rows in
     let tables = with_rows-here frame number all store f.table (with_row f.table row) stored.stands.numbers f.is_here
-        (ap (λ n. (n, map (kept phase f.table.pair) (put_stored row f.table.rows))) f.is_here.numbered ∙ ap (λ (rs : List Kept). (number, rs)) (put_kept phase f.table.pair row f.table.rows)) in
+    (ap (λ n. (n, map (kept phase f.table.pair) (put_stored row f.table.rows))) f.is_here.numbered ∙ ap (λ (rs : List Kept). (number, rs)) (put_kept phase f.table.pair row f.table.rows)) in
     let by_rows : List Kept → Outcome = λ older. without (option_or (option_map refused_row (option_or (key_cause found.table older (k ∷ [])) (clashes s found.side number (put_row k older) (row.key ∷ [])))) (if nat_lt max_rows (row_count s + 1) then Some too_many_rows else None)) (Insert 1, with_rows s number (put_row k older)) in
     let by_key : Option Cause → Outcome = λ cause. without (option_or (option_map refused_row (option_or cause (clashes s found.side number all (row.key ∷ [])))) (if nat_lt max_rows (row_count s + 1) then Some too_many_rows else None)) (Insert 1, with_rows s number all) in
     let by_clash : Option Cause → Outcome = λ cause. without (option_or (option_map refused_row (option_or (if has_key row.key (map bare f.table.rows) then Some (taken_key found.table row.key) else None) cause)) (if nat_lt max_rows (row_count s + 1) then Some too_many_rows else None)) (Insert 1, with_rows s number all) in

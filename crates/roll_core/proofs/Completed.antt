@@ -332,11 +332,13 @@ alone_rows (row ∷ rows) = (tt, alone_rows rows)
 
 ordered_are_stored : (t : State) → phase_of t ≡ Alone → (ts : List StoredTable) → AllByRecursion (IsStoredTable t) (map ordered_table ts)
 ordered_are_stored t q [] = tt
-ordered_are_stored t q (table ∷ ts) =
-    (record {
-      pair = subst (λ ph. HasPair ph t (ordered_table table)) (sym q) refl;
-      rows = subst (λ ph. AllByRecursion (IsStoredRow ph None) (map (ordered_stored table.pair) table.rows)) (sym q) (alone_rows (map (ordered_stored table.pair) table.rows));
-    }, ordered_are_stored t q ts)
+ordered_are_stored t q (table ∷ ts) = (
+  record {
+    pair = subst (λ ph. HasPair ph t (ordered_table table)) (sym q) refl;
+    rows = subst (λ ph. AllByRecursion (IsStoredRow ph None) (map (ordered_stored table.pair) table.rows)) (sym q) (alone_rows (map (ordered_stored table.pair) table.rows));
+  },
+  ordered_are_stored t q ts,
+)
 
 -- What a step of tidying leaves: the machine's state, of these tables in this frame.
 pub record IsTidied (frame : State) (store : List StoredTable) (reply : Reply) (t : State) (new : List StoredTable) : Type 0 where
@@ -358,7 +360,7 @@ second_step law frame store stored k l =
     let p : phase_of frame ≡ Leaving = phase_calm frame 2 calm l in
     let q : phase_of t ≡ Trimmed = phase_calm t 1 calm refl in
     let tables : map (table_meant (phase_of frame)) store ≡ map (table_meant (phase_of t)) (map trimmed_table store) =
-        ap (λ (ph : Phase). map (table_meant ph) store) p ∙ sym (trimmed_tables_are law frame p store stored.tables) ∙ ap (λ (ph : Phase). map (table_meant ph) (map trimmed_table store)) (sym q) in
+    ap (λ (ph : Phase). map (table_meant ph) store) p ∙ sym (trimmed_tables_are law frame p store stored.tables) ∙ ap (λ (ph : Phase). map (table_meant ph) (map trimmed_table store)) (sym q) in
     record {
       is = tidied_is s k ∙ ap (tidied_by s) (ap (λ n. n == 2) l) ∙ ap (λ (ts : List (ℕ × List Kept)). Ok (reply_of.Complete 2, record t { tables = ts })) tables;
       stored = trimmed_are_stored frame t p q refl store stored.tables;
@@ -377,7 +379,7 @@ third_step frame store stored k l =
     let p : phase_of frame ≡ Trimmed = phase_calm frame 1 calm one in
     let q : phase_of t ≡ Alone = phase_calm t 0 calm refl in
     let tables : map (table_meant (phase_of frame)) store ≡ map (table_meant (phase_of t)) (map ordered_table store) =
-        ap (λ (ph : Phase). map (table_meant ph) store) p ∙ sym (ordered_tables_are store) ∙ ap (λ (ph : Phase). map (table_meant ph) (map ordered_table store)) (sym q) in
+    ap (λ (ph : Phase). map (table_meant ph) store) p ∙ sym (ordered_tables_are store) ∙ ap (λ (ph : Phase). map (table_meant ph) (map ordered_table store)) (sym q) in
     record {
       is = tidied_is s k ∙ ap (tidied_by s) l ∙ ap (λ (ts : List (ℕ × List Kept)). Ok (reply_of.Complete 3, record t { tables = ts })) tables;
       stored = ordered_are_stored t q store;

@@ -234,8 +234,8 @@ taken_by : (both : Shared) (rows : List StoredRow) (n : ℕ) → RowsAscend rows
 taken_by both rows n a phase pair p has ascends =
     let o : Option Pair = Some (pair_over both) in
     let start : rows_at (take n (map (λ row. row.key) (filter (λ row. is_none row.halves.new) (map (kept Paired o) rows)))) (map (kept Paired o) rows) ≡ map (kept Paired o) (take n (filter (is_left o) rows)) =
-        taken_first (λ row. is_none row.halves.new) n (map (kept Paired o) rows) (subst (λ (q : Option Pair). Ascends (map (kept Paired q) rows)) has (subst (λ (ph : Phase). Ascends (map (kept ph pair) rows)) p ascends))
-        ∙ ap (take n) (missing_rows (pair_over both) rows) ∙ take_map (kept Paired o) n (filter (is_left o) rows) in
+    taken_first (λ row. is_none row.halves.new) n (map (kept Paired o) rows) (subst (λ (q : Option Pair). Ascends (map (kept Paired q) rows)) has (subst (λ (ph : Phase). Ascends (map (kept ph pair) rows)) p ascends))
+    ∙ ap (take n) (missing_rows (pair_over both) rows) ∙ take_map (kept Paired o) n (filter (is_left o) rows) in
     let paired = subst (λ (q : Option Pair). rows_at (take n (map (λ row. row.key) (filter (λ row. is_none row.halves.new) (map (kept Paired q) rows)))) (map (kept Paired q) rows) ≡ map (kept Paired q) (take n (filter (is_left q) rows))) (sym has) start in
     subst (λ (ph : Phase). rows_at (take n (map (λ row. row.key) (filter (λ row. is_none row.halves.new) (map (kept ph pair) rows)))) (map (kept ph pair) rows) ≡ map (kept ph pair) (take n (filter (is_left pair) rows))) (sym p) paired
 
@@ -304,7 +304,7 @@ batch_stored frame store table both n stands f =
     let rows : rows_of s table.number ≡ older = rows_of-here frame table.number store table f.here in
     let ascends : Ascends older = subst Ascends rows (rows_stand s table.number stands).0 in
     let missing : missing_keys s table.number ≡ map (λ row. row.key) (filter (λ row. is_none row.halves.new) older) =
-        ap (λ (o : Option Shared). option_map_or (λ pair. map (λ row. row.key) (filter (λ row. is_none row.halves.new) (rows_of s table.number))) o []) f.is_shared ∙ ap (λ (rs : List Kept). map (λ row. row.key) (filter (λ row. is_none row.halves.new) rs)) rows in
+    ap (λ (o : Option Shared). option_map_or (λ pair. map (λ row. row.key) (filter (λ row. is_none row.halves.new) (rows_of s table.number))) o []) f.is_shared ∙ ap (λ (rs : List Kept). map (λ row. row.key) (filter (λ row. is_none row.halves.new) rs)) rows in
     let takes = taken_by both table.rows n f.ascend (phase_of frame) table.pair f.phase f.has ascends in
     let by_number : ℕ → CommandOutcome = λ m. batch s both (rows_at (take n (missing_keys s m)) (rows_of s m)) in
     ap by_number f.number

@@ -106,9 +106,10 @@ left_each : (frame : State) (store : List StoredTable) → phase_of frame ≡ Pa
     → AllByRecursion (λ table. has_missing (meaning frame store) table.number ≡ has_left table) ts
 left_each frame store p [] stored rows = tt
 left_each frame store p (table ∷ ts) stored rows =
-    let pair = subst (λ ph. HasPair ph frame table) p stored.0.pair in
-    (ap (λ (rs : List Kept). nat_lt 0 (length (missing_of (shared frame table.number) rs))) rows.0 ∙ missing_by table (shared frame table.number) (phase_of frame) p pair,
-    left_each frame store p ts stored.1 rows.1)
+    let pair = subst (λ ph. HasPair ph frame table) p stored.0.pair in (
+      ap (λ (rs : List Kept). nat_lt 0 (length (missing_of (shared frame table.number) rs))) rows.0 ∙ missing_by table (shared frame table.number) (phase_of frame) p pair,
+      left_each frame store p ts stored.1 rows.1,
+    )
 
 first_by : (s : State) (ts : List StoredTable) → AllByRecursion (λ table. has_missing s table.number ≡ has_left table) ts → first_of (filter (has_missing s) (stored_numbers ts)) ≡ option_map (λ table. table.number) (slice_get ts (left_place ts))
 first_by s [] h = refl

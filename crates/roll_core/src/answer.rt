@@ -25,7 +25,15 @@ pub fn answer(
 {
     match stmt {
         Stmt::Insert(name, names, rows) => {
-            insert(alloc, frame, tables, path, name, names.as_slice(), rows.as_slice())
+            insert(
+                alloc,
+                frame,
+                tables,
+                path,
+                name,
+                names.as_slice(),
+                rows.as_slice(),
+            )
         }
         Stmt::Query(name, items, None) => select(alloc, frame, tables, path, name, items),
         Stmt::SetPath(_) => Ok(Reply::Set),

@@ -18,7 +18,9 @@ use crate::phases::phase_of;
 use crate::places::replace;
 use crate::store::{Rows, StoredRow, StoredTable};
 use crate::views::{kept, rows_meant};
-use machine::parts::{Pair as Both, clashes, may_not_fill, put_rows, shared, table_on, value_cause};
+use machine::parts::{
+    Pair as Both, clashes, may_not_fill, put_rows, shared, table_on, value_cause,
+};
 use machine::{Cause, Kept, Reply, State, Stop};
 use mig_lens::{Refusal, Side};
 use sql_base::{Copying, EvalFault, List, Name, NoMemory, Value};
@@ -208,11 +210,7 @@ fn batch_reply(alloc: Global, name: &Name, filled: &[StoredRow]) -> Result<Reply
 fn refused(alloc: Global, name: &Name, cause: &Cause) -> Result<Reply, NoMemory>
     ensures { IfOk result (λ reply. reply ≡ spec.refused name.now cause.now) }
 {
-    Ok(Reply::Refused(Refusal::BackfillRefused(
-        name.copy(alloc)?,
-        cause.key,
-        cause.code,
-    )))
+    Ok(Reply::Refused(Refusal::BackfillRefused(name.copy(alloc)?, cause.key, cause.code)))
 }
 
 // Puts these rows in the places of those of their keys.

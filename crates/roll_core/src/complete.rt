@@ -29,11 +29,7 @@ pub fn frame_of(alloc: Global, s: State) -> State
 
 // The new version alone stands. The rows are stored as before. (Whether it is refused is looked for in a copy of all
 // rows.)
-fn finish(
-    alloc: Global,
-    frame: &mut State,
-    tables: &[StoredTable],
-) -> Result<Reply, Stop<Refusal>>
+fn finish(alloc: Global, frame: &mut State, tables: &[StoredTable]) -> Result<Reply, Stop<Refusal>>
     requires stored { model.IsStored frame.old tables.now }
     requires calm { frame.old.kind ≡ kind.Nothing }
     ensures answers { engine.Answers (model.meaning frame.old tables.now) (migrate.complete (model.meaning frame.old tables.now)) result (model.meaning frame.new tables.now) }
@@ -79,11 +75,7 @@ fn ordered_values(
     }
 }
 
-fn trimmed_rows(
-    alloc: Global,
-    pair: &Option<Pair>,
-    rows: &[StoredRow],
-) -> Result<Rows, NoMemory>
+fn trimmed_rows(alloc: Global, pair: &Option<Pair>, rows: &[StoredRow]) -> Result<Rows, NoMemory>
     ensures { IfOk result (λ left. left ≡ map (spec.trimmed_stored pair.now) rows.now) }
 {
     let mut left = Rows::new(alloc);
@@ -96,11 +88,7 @@ fn trimmed_rows(
     Ok(left)
 }
 
-fn ordered_rows(
-    alloc: Global,
-    pair: &Option<Pair>,
-    rows: &[StoredRow],
-) -> Result<Rows, NoMemory>
+fn ordered_rows(alloc: Global, pair: &Option<Pair>, rows: &[StoredRow]) -> Result<Rows, NoMemory>
     ensures { IfOk result (λ left. left ≡ map (spec.ordered_stored pair.now) rows.now) }
 {
     let mut left = Rows::new(alloc);

@@ -88,13 +88,7 @@ impl Core {
     {
         machine::laws::refusals_change_nothing();
         machine::laws::states_stand();
-        replied(answer(
-            self.alloc,
-            &self.frame,
-            &mut self.tables,
-            path,
-            stmt,
-        ))
+        replied(answer(self.alloc, &self.frame, &mut self.tables, path, stmt))
     }
 
     /// A batch of at most so many rows is filled: one step of the machine, and just the one that one lane takes. It takes

@@ -17,8 +17,8 @@ use crate::places::{has_key, put, row_count, table_place};
 use crate::store::{StoredRow, StoredTable};
 use crate::views::{kept, rows_meant};
 use machine::parts::{
-    FoundTable, clashes, key_of, new_values, no_table, put_rows, refused_row, syntax, table_of, table_on,
-    taken_key, too_many_rows, value_cause, wrong,
+    FoundTable, clashes, key_of, new_values, no_table, put_rows, refused_row, syntax, table_of,
+    table_on, taken_key, too_many_rows, value_cause, wrong,
 };
 use machine::{Cause, Reply, State, Stop, Table};
 use mig_lens::Side;

@@ -66,11 +66,7 @@ fn begun_rows(alloc: Global, pair: &Option<Pair>, rows: &[StoredRow]) -> Result<
     Ok(all)
 }
 
-fn begun_table(
-    alloc: Global,
-    frame: &State,
-    table: &StoredTable,
-) -> Result<StoredTable, NoMemory>
+fn begun_table(alloc: Global, frame: &State, table: &StoredTable) -> Result<StoredTable, NoMemory>
     ensures { IfOk result (λ all. all ≡ spec.begun_table frame.now table.now) }
 {
     let pair = pair_of(alloc, frame, table.number)?;

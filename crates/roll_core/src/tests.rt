@@ -39,7 +39,11 @@ fn insert(alloc: Global, columns: &[&str], numbers: &[i64], name: &str) -> Resul
 }
 
 // What a SELECT of all columns through a version shows: of each row its key, and the number in its last column.
-fn shown(alloc: Global, core: &mut Core, version: &str) -> Result<List<(i64, Option<i64>)>, NoMemory> {
+fn shown(
+    alloc: Global,
+    core: &mut Core,
+    version: &str,
+) -> Result<List<(i64, Option<i64>)>, NoMemory> {
     let path = named(alloc, &[version])?;
     let all = Stmt::Query(Name::from_slice(alloc, b"users")?, Items::All, None);
     let mut rows = List::new(alloc);
@@ -95,22 +99,73 @@ fn a_migration_is_lived_through(rt: HostRuntime) -> Result<(), Fail> {
     }
     let start = Cmd::Start(Asked::Read(added(alloc)?));
     assert!(rt; matches!(core.ddl(&start)?, Reply::Start(_)));
-    assert_eq!(rt; shown(alloc, &mut core, NEW)?.as_slice(), [(1, None), (2, None), (3, None)].as_slice());
-    assert!(rt; matches!(core.batch(2), Reply::Fill { count: 2, first: 1, last: 2, .. }));
+    assert_eq!(rt;
+        shown(alloc, &mut core, NEW)?.as_slice(),
+        [(1, None), (2, None), (3, None)].as_slice()
+    );
+    assert!(rt;
+        matches!(
+            core.batch(2),
+            Reply::Fill {
+                count: 2,
+                first: 1,
+                last: 2,
+                ..
+            }
+        )
+    );
     let row = insert(alloc, &["id", "name"], &[5], "old")?;
     assert!(rt; matches!(core.statement(old.as_slice(), &row), Reply::Insert(1)));
     let row = insert(alloc, &["id", "name", "n"], &[4, 7], "new")?;
     assert!(rt; matches!(core.statement(new.as_slice(), &row), Reply::Insert(1)));
-    assert_eq!(rt; shown(alloc, &mut core, NEW)?.as_slice(), [(1, Some(1)), (2, Some(2)), (3, None), (4, Some(7)), (5, Some(5))].as_slice());
+    assert_eq!(rt;
+        shown(alloc, &mut core, NEW)?.as_slice(),
+        [
+            (1, Some(1)),
+            (2, Some(2)),
+            (3, None),
+            (4, Some(7)),
+            (5, Some(5))
+        ]
+        .as_slice()
+    );
     assert!(rt; matches!(core.ddl(&Cmd::Complete)?, Reply::Refused(_)));
-    assert!(rt; matches!(core.batch(2), Reply::Fill { count: 1, first: 3, last: 3, .. }));
+    assert!(rt;
+        matches!(
+            core.batch(2),
+            Reply::Fill {
+                count: 1,
+                first: 3,
+                last: 3,
+                ..
+            }
+        )
+    );
     assert!(rt; matches!(core.batch(2), Reply::Filled));
     for step in [1, 2, 3] {
         assert!(rt; matches!(core.ddl(&Cmd::Complete)?, Reply::Complete(n) if n == step));
-        let row = insert(alloc, &["id", "name", "n"], &[10 + i64::from(step), 9], "tidy")?;
+        let row = insert(
+            alloc,
+            &["id", "name", "n"],
+            &[10 + i64::from(step), 9],
+            "tidy",
+        )?;
         assert!(rt; matches!(core.statement(new.as_slice(), &row), Reply::Insert(1)));
     }
     assert_eq!(rt; shown(alloc, &mut core, OLD)?.len(), 0);
-    assert_eq!(rt; shown(alloc, &mut core, NEW)?.as_slice(), [(1, Some(1)), (2, Some(2)), (3, Some(3)), (4, Some(7)), (5, Some(5)), (11, Some(9)), (12, Some(9)), (13, Some(9))].as_slice());
+    assert_eq!(rt;
+        shown(alloc, &mut core, NEW)?.as_slice(),
+        [
+            (1, Some(1)),
+            (2, Some(2)),
+            (3, Some(3)),
+            (4, Some(7)),
+            (5, Some(5)),
+            (11, Some(9)),
+            (12, Some(9)),
+            (13, Some(9))
+        ]
+        .as_slice()
+    );
     Ok(())
 }

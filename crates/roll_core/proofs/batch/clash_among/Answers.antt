@@ -17,7 +17,7 @@ returns c =
     let filled : List Kept = map (kept phase table.pair) c.args.filled.now in
     let older : c.in_ok-older.older ≡ rows_meant phase table = c.in_ok-older.ensures ∙ ap (λ ph. rows_meant ph table) c.phase_of.ensures in
     let all : c.as_slice-3.result.now ≡ put_rows filled (rows_meant phase table) =
-        c.as_slice-3.ensures ∙ c.in_ok-all.ensures ∙ ap (λ (xs : List Kept). put_rows xs c.as_slice-2.result.now) (c.as_slice.ensures ∙ c.in_ok-new.ensures) ∙ ap (put_rows filled) (c.as_slice-2.ensures ∙ older) in
+    c.as_slice-3.ensures ∙ c.in_ok-all.ensures ∙ ap (λ (xs : List Kept). put_rows xs c.as_slice-2.result.now) (c.as_slice.ensures ∙ c.in_ok-new.ensures) ∙ ap (put_rows filled) (c.as_slice-2.ensures ∙ older) in
     let new : c.as_slice-4.result.now ≡ filled = c.as_slice-4.ensures ∙ c.in_ok-new.ensures in
     let gave : IfOk c.clashes.result (λ cause. cause ≡ clashes frame New table.number c.as_slice-3.result.now (keys_of c.as_slice-4.result.now)) = c.clashes.ensures in
     let keys = subst (λ (ks : List ℤ). IfOk c.clashes.result (λ cause. cause ≡ clashes frame New table.number c.as_slice-3.result.now ks)) (ap keys_of new ∙ keys_kept phase table.pair c.args.filled.now) gave in

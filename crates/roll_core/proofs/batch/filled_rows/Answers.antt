@@ -19,7 +19,9 @@ loop-row-preserved c =
     let items = c.as_slice-row-items.result.now in
     let rest = drop_is items c.loop-row.row-index c.row-item.result c.loop-row-test.true c.row-item.is in
     let more : length c.loop-row.filled ≢ c.args.n = λ h. c.if-len-n.false (c.len.ensures ∙ h) in
-    elim c.if-is_left.branch [ then-is_left+in_ok-filled_row+in_ok-push w ↦
-      fills_next c.args.frame.now c.args.table.now c.args.n c.loop-row.filled c.row-item.result w.in_ok-filled_row.field-0 (drop c.loop-row.row-index items) (drop (c.loop-row.row-index + 1) items) c.if-is_left.filled rest (sym c.is_left.ensures ∙ w.if-is_left.true) more w.in_ok-filled_row.ensures (w.filled-is ∙ w.in_ok-push.ensures.ok) c.loop-row.invariant
-    | else-is_left w ↦
-      fills_passed c.args.frame.now c.args.table.now c.args.n c.loop-row.filled c.row-item.result (drop c.loop-row.row-index items) (drop (c.loop-row.row-index + 1) items) c.if-is_left.filled rest (sym c.is_left.ensures ∙ w.if-is_left.false) w.filled-is c.loop-row.invariant ]
+    elim c.if-is_left.branch [
+      | then-is_left+in_ok-filled_row+in_ok-push w ↦
+          fills_next c.args.frame.now c.args.table.now c.args.n c.loop-row.filled c.row-item.result w.in_ok-filled_row.field-0 (drop c.loop-row.row-index items) (drop (c.loop-row.row-index + 1) items) c.if-is_left.filled rest (sym c.is_left.ensures ∙ w.if-is_left.true) more w.in_ok-filled_row.ensures (w.filled-is ∙ w.in_ok-push.ensures.ok) c.loop-row.invariant
+      | else-is_left w ↦
+          fills_passed c.args.frame.now c.args.table.now c.args.n c.loop-row.filled c.row-item.result (drop c.loop-row.row-index items) (drop (c.loop-row.row-index + 1) items) c.if-is_left.filled rest (sym c.is_left.ensures ∙ w.if-is_left.false) w.filled-is c.loop-row.invariant
+    ]

@@ -27,10 +27,26 @@ pub bounds-tables-at-else-at-tables : goal.bounds-tables-at-else-at-tables
 bounds-tables-at-else-at-tables c = left_within c.args.tables.now c.left_place-at.result c.left_place-at.ensures c.if-at-tables.false
 
 pub batch-requires-clause-filling : goal.batch-requires-clause-filling
-batch-requires-clause-filling c = let e = c.in-Some.ensures in let s = c.shared.ensures in let i = c.index-tables-at.is in ?
+batch-requires-clause-filling c =
+    let within = left_within c.args.tables.now c.left_place-at.result c.left_place-at.ensures c.if-at-tables.false in
+    let table = slice_index_or c.args.tables.now c.left_place-at.result c.index-tables-at.result in
+    let here = is_got c.args.tables.now c.left_place-at.result c.index-tables-at.result within in
+    record { table = table; here = here; is_shared = sym c.in-Some.ensures }
 
 pub returns-in-Some-clause-answers : goal.returns-in-Some-clause-answers
-returns-in-Some-clause-answers c = ?
+returns-in-Some-clause-answers c =
+    let within = left_within c.args.tables.now c.left_place-at.result c.left_place-at.ensures c.if-at-tables.false in
+    let table = slice_index_or c.args.tables.now c.left_place-at.result c.index-tables-at.result in
+    let here = is_got c.args.tables.now c.left_place-at.result c.index-tables-at.result within in
+    let first : slice_get c.args.tables.now (left_place c.args.tables.now) ≡ Some table = ap (slice_get c.args.tables.now) (sym c.left_place-at.ensures) ∙ here in
+    let s = meaning c.args.frame.now c.args.tables.now in
+    let is = ap as_outcome (least_some c.args.frame.now c.args.tables.now c.args.n table (pair c.in-Some.both) c.requires.stored c.requires.may first (sym c.in-Some.ensures)) in
+    subst (λ outcome. Answers s outcome c.batch.result (meaning c.args.frame.now c.batch.new.tables)) (sym is) c.batch.ensures.answers
 
 pub returns-in-None-clause-answers : goal.returns-in-None-clause-answers
-returns-in-None-clause-answers c = let e = c.in-None.ensures in ?
+returns-in-None-clause-answers c =
+    let within = left_within c.args.tables.now c.left_place-at.result c.left_place-at.ensures c.if-at-tables.false in
+    let table = slice_index_or c.args.tables.now c.left_place-at.result c.index-tables-at.result in
+    let here = is_got c.args.tables.now c.left_place-at.result c.index-tables-at.result within in
+    let first : slice_get c.args.tables.now (left_place c.args.tables.now) ≡ Some table = ap (slice_get c.args.tables.now) (sym c.left_place-at.ensures) ∙ here in
+    ap as_outcome (least_alone c.args.frame.now c.args.tables.now c.args.n table c.requires.stored c.requires.may first (sym c.in-None.ensures))
