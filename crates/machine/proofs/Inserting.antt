@@ -105,7 +105,7 @@ literals_given columns row values h = by_test (length columns == length row) ref
 row_given : (shape : Shape) (values : List Value) → is_key (slice_get shape.columns shape.key) ≡ true → Given shape.columns values → row_fits shape values ≡ true
 row_given shape values key g = all_true (fits_columns shape.columns values) (is_integer (slice_index_or values shape.key Null)) g.fitting (g.integers shape.key key)
 
-new_values_fit : (shape : Shape) (names : List (List ℕ)) (rows : List (List Expr)) (values : List Value) → is_key (slice_get shape.columns shape.key) ≡ true → new_values shape names rows ≡ Some values → row_fits shape values ≡ true
+pub new_values_fit : (shape : Shape) (names : List (List ℕ)) (rows : List (List Expr)) (values : List Value) → is_key (slice_get shape.columns shape.key) ≡ true → new_values shape names rows ≡ Some values → row_fits shape values ≡ true
 new_values_fit shape names [] values key h = cc
 new_values_fit shape names (row ∷ []) values key h = by_test (are_names_of shape.columns names) h
   where

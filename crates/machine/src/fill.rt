@@ -25,7 +25,8 @@ pub const MAX_BATCH: u32 = 10_000;
 
 // ---- whether a batch may be filled
 
-fn may_not_fill(alloc: Global, s: &State, n: u32) -> Result<Option<Refusal>, NoMemory>
+/// Why no batch can be filled.
+pub fn may_not_fill(alloc: Global, s: &State, n: u32) -> Result<Option<Refusal>, NoMemory>
     ensures { IfOk result (λ refusal. refusal ≡ spec.may_not_fill s.now n) }
 {
     if n == 0 || n > MAX_BATCH {

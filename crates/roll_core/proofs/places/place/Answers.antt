@@ -1,0 +1,31 @@
+use Rattle.std.proofs.Common.{arith, ◌≡◌, ◌≤◌, ◌<◌, ◌+◌, ◌-◌, ◌/◌, ◌∙◌, ℕ, Some, Greater, int_cmp, length, refl, sym, ap}
+use Rattle.std.specs.Prelude.{slice_get, slice_index_or}
+use Rattle.roll_core.specs.Store.{place}
+use Rattle.roll_core.specs.declared.store.StoredRow.{StoredRow}
+use Rattle.roll_core.proofs.Reading.{is_got}
+use Rattle.roll_core.proofs.Rows.{place_past, place_upto, place_within}
+use Rattle.roll_core.proofs.places.place.Goals as goal
+
+pub loop-low-init : goal.loop-low-init
+loop-low-init c = let within = place_within c.args.row.now.key c.args.rows.now in (omega arith, within, omega arith)
+
+pub loop-low-preserved-in-Greater : goal.loop-low-preserved-in-Greater
+loop-low-preserved-in-Greater c =
+    let middle : ℕ = c.loop-low.low + (c.loop-low.high - c.loop-low.low) / 2 in
+    let d = c.index-rows-middle.result in
+    let rows = c.args.rows.now in
+    let invariant = c.loop-low.invariant in
+    let within : middle < length rows = omega (arith, c.loop-low-test.true, invariant.2) in
+    let greater : int_cmp c.args.row.now.key (slice_index_or rows middle d).key ≡ Greater = sym c.cmp.ensures ∙ c.in-Greater.is in
+    let past = place_past c.args.row.now.key rows middle (slice_index_or rows middle d) c.requires (is_got rows middle d within) greater in
+    (omega (arith, past), invariant.1, invariant.2)
+
+pub loop-low-preserved : goal.loop-low-preserved
+loop-low-preserved c =
+    let middle : ℕ = c.loop-low.low + (c.loop-low.high - c.loop-low.low) / 2 in
+    let d = c.index-rows-middle.result in
+    let rows = c.args.rows.now in
+    let invariant = c.loop-low.invariant in
+    let within : middle < length rows = omega (arith, c.loop-low-test.true, invariant.2) in
+    let upto = place_upto c.args.row.now.key rows middle (slice_index_or rows middle d) (is_got rows middle d within) (λ greater. c.in_default.not-Greater (c.cmp.ensures ∙ greater)) in
+    (invariant.0, upto, omega (arith, within))
