@@ -1,6 +1,5 @@
 -- A lane goes on by entries.
-use Rattle.std.proofs.Common.{◌≡◌, ◌⊎◌, ℕ, ◌+◌, Bool, true, false, ◌||◌, List, [], ◌∷◌, ◌++◌, length, Option, Result, Ok, Err, refl, sym, ap, subst, ◌∙◌, append-nil, length-append, inl, inr, arith}
-use Rattle.std.specs.List.{list_any}
+use Rattle.std.proofs.Common.{◌≡◌, ℕ, ℤ, ◌+◌, Bool, true, false, ◌||◌, List, [], ◌∷◌, ◌++◌, length, Option, Result, Ok, Err, refl, sym, ap, subst, ◌∙◌, length-append, arith}
 use Rattle.pg_io.specs.Outside.{Known}
 use Rattle.machine.specs.declared.events.Entry.{Entry}
 use Rattle.machine.specs.declared.events.Event.{Event}
@@ -9,12 +8,19 @@ use Rattle.machine.specs.declared.states.State.{State}
 use Rattle.machine.specs.declared.tasks.Task.{Task}
 use Rattle.machine.specs.Follows.{Does, path_after, path_by}
 use Rattle.machine.specs.Step.{Run, Step}
+use Rattle.sql_base.specs.declared.codes.Code.{Code}
+use Rattle.sql_base.specs.declared.stmts.Stmt.TheVariants.{SetPath}
+use Rattle.machine.specs.declared.events.Event.TheVariants.{Said}
+use Rattle.machine.specs.declared.events.Reading.{Reading}
+use Rattle.machine.specs.declared.events.Reading.TheVariants.{Stmt as Read, Syntax}
+use Rattle.machine.specs.declared.events.Reply.TheVariants.{Error}
 use Rattle.pgroll_top.specs.declared.ending.Stop.{Stop}
+use Rattle.pgroll_top.specs.declared.ending.Stop.TheVariants.{NoMemory}
 use Rattle.pgroll_top.specs.declared.lanes.Lane.{Lane}
 use Rattle.pgroll_top.specs.Work.{has_refusal, line_of, numbers, refuses}
-use Rattle.pgroll_top.specs.Parts.{Advances, Comes, DoesTask, Shows, Tells}
-use Rattle.pgroll_top.proofs.Following.{does_begins, path_append}
-use Rattle.pgroll_top.proofs.Telling.{tells_one}
+use Rattle.pgroll_top.specs.Parts.{Advances, Comes, DoesTask, Shows}
+use Rattle.pgroll_top.proofs.Following.{begins_none, does_begins, path_append}
+use Rattle.pgroll_top.proofs.Telling.{tells_none, tells_one}
 
 -- ---- one run after another
 
@@ -80,3 +86,18 @@ pub does_one : (old : Lane) (output : Known) (one : Task) (actor : ℕ) (what : 
 does_one old output one actor what reply core path new result step moved is shown does =
     let entry = entry_of old actor what reply in
     (entry ∷ [], advances_one old actor what reply core path new step moved is, tells_one output entry result shown, comes old.path one result (entry ∷ []) does)
+
+-- a task of which nothing was done, for want of memory
+pub none_done : (old : Lane) (core : State) → core ≡ old.core → (told : Option (List ℕ)) (a : ℕ) (one : Task)
+    → DoesTask old (record { core = core; path = old.path; number = old.number; refused = old.refused }) (record { before = told; after = told; faults_before = a; faults_after = a }) one (Err NoMemory)
+none_done old core same told a one =
+    ([], subst (λ s. Advances old (record { core = s; path = old.path; number = old.number; refused = old.refused }) []) (sym same) (advances_none old), tells_none told a, begins_none numbers old.path (one ∷ []))
+
+-- a refusal leaves the path
+pub path_stays : (path said : List (List ℕ)) (reading : Reading) (answer : Reply) (code : Code) (name : Option (List ℕ)) (key : Option ℤ) → answer ≡ Error code name key → path ≡ path_by path (Said said reading) answer
+path_stays path said reading answer code name key is = subst (λ r. path ≡ path_by path (Said said reading) r) (sym is) (by_reading reading)
+  where
+    by_reading : (reading : Reading) → path ≡ path_by path (Said said reading) (Error code name key)
+    by_reading (Read (SetPath names)) = refl
+    by_reading (Read _) = refl
+    by_reading Syntax = refl

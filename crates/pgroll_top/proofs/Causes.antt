@@ -36,25 +36,25 @@ ended words input WantOfMemory h shown b k = k.4 refl
 module _ (words : List (List ℕ)) (input output : Known) (status : ℕ) where
   pub usage_cause : (h : List Entry) × Explains words input output status h → status ≡ 2 → ¬ IsForm words
   usage_cause (h, (history, inl (end, shown, because, inl closes))) e form = ended words input end h shown because
-      ((λ s. either_way s (λ e. absurd (omega arith)) (λ e. absurd (omega arith))), (λ s no. no form), (λ s f. absurd (omega arith)), (λ s f. absurd (omega arith)), (λ s. absurd (omega arith)))
+      ((λ s. either_way s (λ q. absurd (omega arith)) (λ q. absurd (omega arith))), (λ s no. no form), (λ s f. absurd (omega arith)), (λ s f. absurd (omega arith)), (λ s. absurd (omega arith)))
   usage_cause (h, (history, inl (end, shown, because, inr cut))) e form = absurd (omega (arith, cut.0))
   usage_cause (h, (history, inr breaks)) e form = absurd (omega (arith, breaks.1))
 
   pub read_cause : (h : List Entry) × Explains words input output status h → status ≡ 3 → Faulted input
   read_cause (h, (history, inl (end, shown, because, inl closes))) e = ended words input end h shown because
-      ((λ s. either_way s (λ e. absurd (omega (arith, closes.0))) (λ e. absurd (omega (arith, closes.0)))), (λ s no. absurd (omega (arith, closes.0))), (λ s f. f), (λ s f. absurd (omega (arith, closes.0))), (λ s. absurd (omega (arith, closes.0))))
+      ((λ s. either_way s (λ q. absurd (omega (arith, closes.0))) (λ q. absurd (omega (arith, closes.0)))), (λ s no. absurd (omega (arith, closes.0))), (λ s f. f), (λ s f. absurd (omega (arith, closes.0))), (λ s. absurd (omega (arith, closes.0))))
   read_cause (h, (history, inl (end, shown, because, inr cut))) e = absurd (omega (arith, cut.0))
   read_cause (h, (history, inr breaks)) e = absurd (omega (arith, breaks.1))
 
   pub write_cause : (h : List Entry) × Explains words input output status h → status ≡ 4 → Faulted output
   write_cause (h, (history, inl (end, shown, because, inl closes))) e = ended words input end h shown because
-      ((λ s. either_way s (λ e. absurd (omega (arith, closes.0))) (λ e. absurd (omega (arith, closes.0)))), (λ s no. absurd (omega (arith, closes.0))), (λ s f. absurd (omega (arith, closes.0))), (λ s f. absurd (omega (arith, closes.0))), (λ s. absurd (omega (arith, closes.0))))
+      ((λ s. either_way s (λ q. absurd (omega (arith, closes.0))) (λ q. absurd (omega (arith, closes.0)))), (λ s no. absurd (omega (arith, closes.0))), (λ s f. absurd (omega (arith, closes.0))), (λ s f. absurd (omega (arith, closes.0))), (λ s. absurd (omega (arith, closes.0))))
   write_cause (h, (history, inl (end, shown, because, inr cut))) e = cut.1.failed
   write_cause (h, (history, inr (form, four, part, (done, last, split, cut)))) e = cut.failed
 
   pub long_cause : (h : List Entry) × Explains words input output status h → status ≡ 8 → PassesLimit limit input.before input.after
   long_cause (h, (history, inl (end, shown, because, inl closes))) e = ended words input end h shown because
-      ((λ s. either_way s (λ e. absurd (omega (arith, closes.0))) (λ e. absurd (omega (arith, closes.0)))), (λ s no. absurd (omega (arith, closes.0))), (λ s f. absurd (omega (arith, closes.0))), (λ s f. f), (λ s. absurd (omega (arith, closes.0))))
+      ((λ s. either_way s (λ q. absurd (omega (arith, closes.0))) (λ q. absurd (omega (arith, closes.0)))), (λ s no. absurd (omega (arith, closes.0))), (λ s f. absurd (omega (arith, closes.0))), (λ s f. f), (λ s. absurd (omega (arith, closes.0))))
   long_cause (h, (history, inl (end, shown, because, inr cut))) e = absurd (omega (arith, cut.0))
   long_cause (h, (history, inr breaks)) e = absurd (omega (arith, breaks.1))
 
@@ -128,7 +128,7 @@ module _ (words : List (List ℕ)) (input output : Known) (status : ℕ) where
 -- the line of an entry that was refused
 refusal_among : (h : List Entry) → has_refusal h ≡ true → (number : ℕ) × (actor : List ℕ) × (refusal : Refusal) × (front : List ℕ) × (rest : List ℕ) × (lines_of h ≡ front ++ (numbered number actor (reply.Refused refusal) ++ rest))
 refusal_among [] e = cc
-refusal_among (entry ∷ h) e = by_test (refuses entry.reply) refl e
+refusal_among (entry ∷ h) e = by_test (refusal_among h) (refuses entry.reply) refl e
   where
     of_reply : (answer : Reply) → entry.reply ≡ answer → refuses answer ≡ true → (number : ℕ) × (actor : List ℕ) × (refusal : Refusal) × (front : List ℕ) × (rest : List ℕ) × (lines_of (entry ∷ h) ≡ front ++ (numbered number actor (reply.Refused refusal) ++ rest))
     of_reply (reply.Refused refusal) is t = (entry.number, slice_index_or actors entry.actor [], refusal, [], lines_of h, ap (λ answer. numbered entry.number (slice_index_or actors entry.actor []) answer ++ lines_of h) is)
@@ -141,10 +141,11 @@ refusal_among (entry ∷ h) e = by_test (refuses entry.reply) refl e
     of_reply reply.Filled is t = cc
     of_reply (reply.Complete step) is t = cc
 
-    by_test : (b : Bool) → refuses entry.reply ≡ b → (b || has_refusal h) ≡ true → (number : ℕ) × (actor : List ℕ) × (refusal : Refusal) × (front : List ℕ) × (rest : List ℕ) × (lines_of (entry ∷ h) ≡ front ++ (numbered number actor (reply.Refused refusal) ++ rest))
-    by_test true is t = of_reply entry.reply refl is
-    by_test false is t =
-        let later = refusal_among h t in
+    by_test : (has_refusal h ≡ true → (number : ℕ) × (actor : List ℕ) × (refusal : Refusal) × (front : List ℕ) × (rest : List ℕ) × (lines_of h ≡ front ++ (numbered number actor (reply.Refused refusal) ++ rest)))
+        → (b : Bool) → refuses entry.reply ≡ b → (b || has_refusal h) ≡ true → (number : ℕ) × (actor : List ℕ) × (refusal : Refusal) × (front : List ℕ) × (rest : List ℕ) × (lines_of (entry ∷ h) ≡ front ++ (numbered number actor (reply.Refused refusal) ++ rest))
+    by_test there true is t = of_reply entry.reply refl is
+    by_test there false is t =
+        let later = there t in
         (later.0, later.1, later.2, line_of entry ++ later.3, later.4, ap (λ z. line_of entry ++ z) later.5 ∙ sym (append_assoc (line_of entry) later.3 (numbered later.0 later.1 (reply.Refused later.2) ++ later.4)))
 
 -- an end of status 1 has such a line

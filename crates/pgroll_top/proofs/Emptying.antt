@@ -1,5 +1,5 @@
 -- A batch that fills rows leaves fewer rows that are to be filled.
-use Rattle.std.proofs.Common.{◌≡◌, ℕ, ◌+◌, ◌<◌, ◌≤◌, ℤ, List, [], ◌∷◌, Bool, true, false, ◌&&◌, ◌||◌, ◌==◌, cond, Option, Some, None, Result, Ok, Err, is_none, refl, ◌∙◌, sym, ap, subst, if◌then◌else◌, length, map, find, sum_by, arith, le_of_eq, lt_of_le_of_lt, le_of_lt, int_cmp, int_eq, Ordering, Less, Equal, Greater, inl, inr}
+use Rattle.std.proofs.Common.{◌≡◌, ℕ, ◌+◌, ◌<◌, ◌≤◌, ℤ, List, [], ◌∷◌, Bool, true, false, ◌&&◌, ◌||◌, ◌==◌, cond, Option, Some, None, Ok, Err, is_none, refl, ◌∙◌, sym, ap, subst, if◌then◌else◌, length, map, find, sum_by, arith, le_of_eq, lt_of_le_of_lt, le_of_lt, int_cmp, int_eq, Ordering, Less, Equal, Greater, inl, inr}
 use Rattle.std.specs.Prelude.{unwrap_or}
 use Rattle.std.specs.List.{filter, list_any}
 use Rattle.std.specs.Option.{option_map, option_map_or}
@@ -7,12 +7,10 @@ use Rattle.std.specs.Ordering.{match_ordering, is_eq}
 use Rattle.std.proofs.lemmas.Bool.Decides.{nat_tests}
 use Rattle.std.proofs.lemmas.List.Sums.{sum_by-cons}
 use Rattle.sql_base.specs.Outcome.{and_then, every}
-use Rattle.sql_base.specs.declared.values.Value.{Value}
 use Rattle.mig_lens.specs.declared.columns.Side.TheVariants.{New}
 use Rattle.mig_lens.specs.declared.faults.Refusal.{Refusal}
 use Rattle.mig_lens.specs.Lens.{forward}
 use Rattle.mig_lens.proofs.MadeHalves.{and_then_ok}
-use Rattle.machine.specs.declared.causes.Cause.{Cause}
 use Rattle.machine.specs.declared.events.Reply.{Reply}
 use Rattle.machine.specs.declared.events.Reply.TheVariants as reply
 use Rattle.machine.specs.declared.states.Halves.{Halves}
@@ -22,15 +20,17 @@ use Rattle.machine.specs.Accept.{clashes, has_key, sound, wrong}
 use Rattle.machine.specs.Follows.{goes_on_filling}
 use Rattle.machine.specs.Migrate.{CommandOutcome, batch, batch_reply, batch_written, fill_keys, filled_halves, filled_row, may_not_fill, of_cause, refused_batch, rows_at, unfilled_tables}
 use Rattle.machine.specs.Standing.{Ascends, IsState, NumbersAscend}
-use Rattle.machine.specs.State.{Shared, missing_keys, name_of, number_of, put_row, put_rows, row_count, rows_of, shape_of, shared, with_rows}
-use Rattle.machine.specs.Statement.{keys_of, made_row, max_rows}
-use Rattle.machine.specs.Step.{ComesTo, FillStep, Fills, FillsSome, Step, as_outcome}
+use Rattle.machine.specs.State.{Shared, missing_keys, name_of, number_of, put_row, put_rows, rows_of, shape_of, shared, with_rows}
+use Rattle.machine.specs.Statement.{keys_of, made_row}
+use Rattle.machine.specs.Step.{ComesTo, FillStep, FillsSome, Step, as_outcome}
 use Rattle.machine.specs.declared.events.Event.TheVariants.{Fill}
+use Rattle.pgroll_top.specs.declared.lanes.Lane.{Lane}
+use Rattle.pgroll_top.proofs.Advancing.{lane_after}
 use Rattle.machine.proofs.Accepting.{made_row_ok, ok_same, without_ok}
 use Rattle.machine.proofs.Filling.{of_cause_ok}
 use Rattle.machine.proofs.Joining.{number_on}
 use Rattle.machine.proofs.Pairs.{pair_stands}
-use Rattle.machine.proofs.Placing.{above_fresh, ascends_above, ascends_rest, cmp_same, put_ascends, rows_stand}
+use Rattle.machine.proofs.Placing.{above_fresh, ascends_above, ascends_rest, cmp_same, rows_stand}
 
 -- ---- how many rows have no new half
 
@@ -116,14 +116,15 @@ put_fewer row (first ∷ rows) h a at = by_order (put_fewer row rows h (ascends_
     here e = either (int_eq row.key first.key && is_none first.halves.new) (unfilled_at row.key rows) at
         (λ k. (both (int_eq row.key first.key) (is_none first.halves.new) k).1)
         (λ k. let later : has_key row.key rows ≡ true = at_key row.key rows k in
-          let same : row.key ≡ first.key = cmp_same row.key first.key e in
-          let fresh : has_key row.key rows ≡ false = ap (λ key. has_key key rows) same ∙ above_fresh first.key rows (ascends_above first rows a) (ascends_rest first rows a) in
-          cc)
+        let same : row.key ≡ first.key = cmp_same row.key first.key e in
+        let fresh : has_key row.key rows ≡ false = ap (λ key. has_key key rows) same ∙ above_fresh first.key rows (ascends_above first rows a) (ascends_rest first rows a) in
+        cc)
 
     by_order : (unfilled_at row.key rows ≡ true → unfilled_in (put_row row rows) < unfilled_in rows) → (o : Ordering) → int_cmp row.key first.key ≡ o
         → unfilled_in (match_ordering o (row ∷ first ∷ rows) (row ∷ rows) (first ∷ put_row row rows)) < unfilled_in (first ∷ rows)
     by_order there Less e =
         let fresh : has_key row.key (first ∷ rows) ≡ false = above_fresh row.key (first ∷ rows) e a in
+        let there_is : has_key row.key (first ∷ rows) ≡ true = known in
         absurd cc
     by_order there Equal e = omega (arith, ap one_if h, ap one_if (here e))
     by_order there Greater e =
@@ -183,22 +184,22 @@ are_filled s pair (row ∷ rows) new h =
 -- a key among these that rows without new halves have
 key_among : (rows : List Kept) (key : ℤ) → list_any (int_eq key) (map (λ row. row.key) (filter (λ row. is_none row.halves.new) rows)) ≡ true → unfilled_at key rows ≡ true
 key_among [] key h = cc
-key_among (row ∷ rows) key h = by_test (is_none row.halves.new) refl h
+key_among (row ∷ rows) key h = by_test (key_among rows key) (is_none row.halves.new) refl h
   where
-    by_test : (b : Bool) → is_none row.halves.new ≡ b → list_any (int_eq key) (map (λ row. row.key) (cond b (row ∷ filter (λ row. is_none row.halves.new) rows) (filter (λ row. is_none row.halves.new) rows))) ≡ true → (int_eq key row.key && is_none row.halves.new || unfilled_at key rows) ≡ true
-    by_test true e k = either (int_eq key row.key) (list_any (int_eq key) (map (λ row. row.key) (filter (λ row. is_none row.halves.new) rows))) k
+    by_test : (list_any (int_eq key) (map (λ row. row.key) (filter (λ row. is_none row.halves.new) rows)) ≡ true → unfilled_at key rows ≡ true) → (b : Bool) → is_none row.halves.new ≡ b → list_any (int_eq key) (map (λ row. row.key) (cond b (row ∷ filter (λ row. is_none row.halves.new) rows) (filter (λ row. is_none row.halves.new) rows))) ≡ true → (int_eq key row.key && is_none row.halves.new || unfilled_at key rows) ≡ true
+    by_test there true e k = either (int_eq key row.key) (list_any (int_eq key) (map (λ row. row.key) (filter (λ row. is_none row.halves.new) rows))) k
         (λ t. or_left (int_eq key row.key && is_none row.halves.new) (unfilled_at key rows) (rw (t, e) refl))
-        (λ t. or_right (int_eq key row.key && is_none row.halves.new) (unfilled_at key rows) (key_among rows key t))
-    by_test false e k = or_right (int_eq key row.key && is_none row.halves.new) (unfilled_at key rows) (key_among rows key k)
+        (λ t. or_right (int_eq key row.key && is_none row.halves.new) (unfilled_at key rows) (there t))
+    by_test there false e k = or_right (int_eq key row.key && is_none row.halves.new) (unfilled_at key rows) (there k)
 
 -- a key of some of these keys is one of these
 some_of : (chosen : ℤ → Bool) (keys : List ℤ) (key : ℤ) → list_any (int_eq key) (filter chosen keys) ≡ true → list_any (int_eq key) keys ≡ true
 some_of chosen [] key h = h
-some_of chosen (one ∷ keys) key h = by_test (chosen one) h
+some_of chosen (one ∷ keys) key h = by_test (some_of chosen keys key) (chosen one) h
   where
-    by_test : (b : Bool) → list_any (int_eq key) (cond b (one ∷ filter chosen keys) (filter chosen keys)) ≡ true → (int_eq key one || list_any (int_eq key) keys) ≡ true
-    by_test true k = either (int_eq key one) (list_any (int_eq key) (filter chosen keys)) k (λ t. or_left (int_eq key one) (list_any (int_eq key) keys) t) (λ t. or_right (int_eq key one) (list_any (int_eq key) keys) (some_of chosen keys key t))
-    by_test false k = or_right (int_eq key one) (list_any (int_eq key) keys) (some_of chosen keys key k)
+    by_test : (list_any (int_eq key) (filter chosen keys) ≡ true → list_any (int_eq key) keys ≡ true) → (b : Bool) → list_any (int_eq key) (cond b (one ∷ filter chosen keys) (filter chosen keys)) ≡ true → (int_eq key one || list_any (int_eq key) keys) ≡ true
+    by_test there true k = either (int_eq key one) (list_any (int_eq key) (filter chosen keys)) k (λ t. or_left (int_eq key one) (list_any (int_eq key) keys) t) (λ t. or_right (int_eq key one) (list_any (int_eq key) keys) (there t))
+    by_test there false k = or_right (int_eq key one) (list_any (int_eq key) keys) (there k)
 
 -- the rows of some keys have those keys
 abbrev FirstAmong : (ℤ → Bool) → List Kept → Type 0
@@ -207,11 +208,11 @@ FirstAmong p (row ∷ rows) = p row.key ≡ true
 
 first_among : (p : ℤ → Bool) (rows : List Kept) → FirstAmong p (filter (λ row. p row.key) rows)
 first_among p [] = tt
-first_among p (row ∷ rows) = by_test (p row.key) refl
+first_among p (row ∷ rows) = by_test (first_among p rows) (p row.key) refl
   where
-    by_test : (b : Bool) → p row.key ≡ b → FirstAmong p (cond b (row ∷ filter (λ row. p row.key) rows) (filter (λ row. p row.key) rows))
-    by_test true e = e
-    by_test false e = first_among p rows
+    by_test : FirstAmong p (filter (λ row. p row.key) rows) → (b : Bool) → p row.key ≡ b → FirstAmong p (cond b (row ∷ filter (λ row. p row.key) rows) (filter (λ row. p row.key) rows))
+    by_test there true e = e
+    by_test there false e = there
 
 module _ (p : ℤ → Bool) (rows : List Kept) (at : (key : ℤ) → p key ≡ true → unfilled_at key rows ≡ true) where
   first_at : (table : List ℕ) (new picked : List Kept) → keys_of new ≡ keys_of picked → FirstAmong p picked → goes_on_filling (batch_reply table (keys_of new)) ≡ true → FirstAt new rows
@@ -273,9 +274,9 @@ batch_fewer s number pair chosen accepted stands is h goes =
     let done = without_ok (option_map (refused_batch name) (clashes s New (number_of pair.new) all (keys_of made.0))) (batch_reply name (keys_of made.0), with_rows s (number_of pair.new) all) accepted made.2 in
     let filled = are_filled s pair picked made.0 (of_cause_ok name (every (map (filled_row s pair) picked)) made.0 made.1) in
     let missing : missing_keys s number ≡ map (λ row. row.key) (filter (λ row. is_none row.halves.new) rows) =
-        ap (λ (found : Option Shared). option_map_or (λ pair. map (λ row. row.key) (filter (λ row. is_none row.halves.new) rows)) found []) is in
+    ap (λ (found : Option Shared). option_map_or (λ pair. map (λ row. row.key) (filter (λ row. is_none row.halves.new) rows)) found []) is in
     let at : (key : ℤ) → list_any (int_eq key) keys ≡ true → unfilled_at key rows ≡ true =
-        λ key k. key_among rows key (subst (λ all. list_any (int_eq key) all ≡ true) missing (some_of chosen (missing_keys s number) key k)) in
+    λ key k. key_among rows key (subst (λ all. list_any (int_eq key) all ≡ true) missing (some_of chosen (missing_keys s number) key k)) in
     let goes_so : goes_on_filling (batch_reply name (keys_of made.0)) ≡ true = ap goes_on_filling (ap (λ (d : Reply × State). d.0) done.1) ∙ goes in
     let first = first_at (λ key. list_any (int_eq key) keys) rows at name made.0 picked filled.keys (first_among (λ key. list_any (int_eq key) keys) rows) goes_so in
     let fewer = puts_fewer made.0 rows filled.all (rows_stand s number stands).0 first in
@@ -310,3 +311,9 @@ step_fewer s t n answer None stands c goes = some_fewer s t n answer (unfilled_t
 pub fills_fewer : (s t : State) (n : ℕ) (answer : Reply) → IsState s → Step s (Fill n) answer t → goes_on_filling answer ≡ true → unfilled_rows t < unfilled_rows s
 fills_fewer s t n answer stands (inl c) goes = step_fewer s t n answer (may_not_fill s n) stands c goes
 fills_fewer s t n answer stands (inr c) goes = let none : goes_on_filling answer ≡ false = ap goes_on_filling c.0 in absurd cc
+
+-- as the lane after it sees them
+pub lane_fewer : (mid new : Lane) (core : State) (path : List (List ℕ)) (n : ℕ) (answer : Reply) → IsState mid.core → Step mid.core (Fill n) answer core → goes_on_filling answer ≡ true → new ≡ lane_after mid core path answer
+    → unfilled_rows new.core < unfilled_rows mid.core
+lane_fewer mid new core path n answer stands step goes is =
+    subst (λ s. unfilled_rows s < unfilled_rows mid.core) (sym (ap (λ (lane : Lane). lane.core) is)) (fills_fewer mid.core core n answer stands step goes)

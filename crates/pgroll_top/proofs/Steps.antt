@@ -1,5 +1,5 @@
 -- A step of completing leaves fewer steps.
-use Rattle.std.proofs.Common.{◌≡◌, ℕ, ◌<◌, ◌≤◌, ◌==◌, Bool, true, false, cond, List, Option, Some, None, Result, Ok, Err, refl, ◌∙◌, sym, ap, subst, if◌then◌else◌, arith}
+use Rattle.std.proofs.Common.{◌≡◌, ℕ, ◌<◌, ◌≤◌, ◌==◌, Bool, true, false, cond, List, Option, Some, None, Ok, Err, refl, ◌∙◌, sym, ap, subst, if◌then◌else◌, arith}
 use Rattle.sql_base.specs.declared.shapes.Schema.{Schema}
 use Rattle.mig_lens.specs.declared.faults.Kind.{Kind}
 use Rattle.mig_lens.specs.declared.faults.Kind.TheVariants as kind
@@ -11,9 +11,11 @@ use Rattle.machine.specs.declared.events.Reply.TheVariants as reply
 use Rattle.machine.specs.declared.states.Mode.{Mode}
 use Rattle.machine.specs.declared.states.Mode.TheVariants.{Calm, Both}
 use Rattle.machine.specs.declared.states.State.{State}
+use Rattle.pgroll_top.specs.declared.lanes.Lane.{Lane}
+use Rattle.pgroll_top.proofs.Advancing.{lane_after}
 use Rattle.machine.specs.Accept.{without}
 use Rattle.machine.specs.Follows.{goes_on_completing}
-use Rattle.machine.specs.Migrate.{CommandOutcome, complete, completed, finish, may_not_complete, tidied}
+use Rattle.machine.specs.Migrate.{completed, finish, may_not_complete, tidied}
 use Rattle.machine.specs.Step.{ComesTo, Step, as_outcome}
 
 -- how many steps may come
@@ -59,6 +61,23 @@ kind_fewer s t answer kind.Rollback is c goes = refused_goes (refusal.Unfinished
 -- after a step of completing that isn't the last fewer are due
 pub completes_fewer : (s t : State) (answer : Reply) → Step s event.Complete answer t → goes_on_completing answer ≡ true → steps_due t < steps_due s
 completes_fewer s t answer step goes = kind_fewer s t answer s.kind refl step goes
+
+pub lane_fewer_steps : (mid new : Lane) (core : State) (path : List (List ℕ)) (answer : Reply) → Step mid.core event.Complete answer core → goes_on_completing answer ≡ true → new ≡ lane_after mid core path answer
+    → steps_due new.core < steps_due mid.core
+lane_fewer_steps mid new core path answer step goes is =
+    subst (λ s. steps_due s < steps_due mid.core) (sym (ap (λ (lane : Lane). lane.core) is)) (completes_fewer mid.core core answer step goes)
+
+pub steps_least : (s : State) → 1 ≤ steps_due s
+steps_least s = by_kind s.kind s.left
+  where
+    one_least : (b : Bool) → 1 ≤ cond b 2 1
+    one_least true = omega arith
+    one_least false = omega arith
+
+    by_kind : (k : Kind) (left : ℕ) → 1 ≤ steps_of k left
+    by_kind kind.Nothing left = omega arith
+    by_kind kind.Complete left = one_least (left == 2)
+    by_kind kind.Rollback left = omega arith
 
 pub steps_most : (s : State) → steps_due s ≤ 3
 steps_most s = by_kind s.kind s.left

@@ -1,5 +1,5 @@
 -- What lines ask for.
-use Rattle.std.proofs.Common.{◌≡◌, ℕ, List, [], ◌∷◌, ◌++◌, Option, None, Some, refl, sym, ap}
+use Rattle.std.proofs.Common.{◌≡◌, ℕ, List, [], ◌∷◌, ◌++◌, Option, None, Some, refl, ap}
 use Rattle.std.specs.Option.{option_map}
 use Rattle.mig_json.specs.declared.faults.JsonFault.{JsonFault}
 use Rattle.mig_json.specs.Migration.{FaultlessTextsAreRead}

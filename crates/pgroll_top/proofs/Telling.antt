@@ -1,6 +1,6 @@
 -- Lines of entries that are written one after another.
-use Rattle.std.proofs.Common.{◌≡◌, ◌≢◌, ◌⊎◌, ℕ, ◌+◌, ◌≤◌, List, [], ◌∷◌, ◌++◌, Option, Result, Ok, Err, refl, sym, ap, ◌∙◌, append_assoc, append-nil, inl, inr, arith}
-use Rattle.std.specs.Io.KnownBytes.{Appends, Keeps}
+use Rattle.std.proofs.Common.{◌≡◌, ℕ, List, [], ◌∷◌, ◌++◌, Option, Result, Ok, Err, refl, sym, ap, ◌∙◌, append_assoc, append-nil, inl, inr, arith, codes, decimal}
+use Rattle.std.specs.Io.KnownBytes.{Appends}
 use Rattle.std.proofs.lemmas.Grind.{flat_map-append}
 use Rattle.pg_io.specs.Outside.{Known, Cut}
 use Rattle.pg_io.proofs.Known.{appends_more, appends_kept, appends_none, rose_since}
@@ -9,7 +9,12 @@ use Rattle.pgroll_top.specs.declared.ending.Stop.{Stop}
 use Rattle.pgroll_top.specs.declared.ending.Stop.TheVariants.{WriteFault, NoMemory}
 use Rattle.pgroll_top.specs.Work.{IsShown, line_of, lines_of}
 use Rattle.pgroll_top.specs.Parts.{Shows, Tells}
-use Rattle.pgroll_top.specs.Top.{CutAtLast}
+use Rattle.pgroll_top.specs.Top.{end_line}
+use Rattle.pgroll_top.specs.declared.ending.End.TheVariants.{BadScript}
+use Rattle.mig_lens.specs.declared.faults.Refusal.TheVariants as refusal
+use Rattle.machine.specs.declared.events.Reply.TheVariants.{Refused}
+use Rattle.roll_core.specs.Lines.{reply_text}
+use Rattle.std.proofs.lemmas.Fmt.{decimal_digit}
 
 pub lines_append : (h e : List Entry) → lines_of h ++ lines_of e ≡ lines_of (h ++ e)
 lines_append h e = sym (flat_map-append line_of h e)
@@ -34,9 +39,9 @@ tells_one output entry (Err WriteFault) shown = ([], entry, refl, shown)
 tells_one output entry (Err NoMemory) shown = ([], inr (entry, refl), appends_kept output.before output.before output.after [] (appends_none output.before) shown.0, shown.1)
 
 -- why the work stopped is told the same way whatever it would have answered
-pub tells_stop : {T U : Type 0} (output : Known) (stop : Stop) (entries : List Entry) → Tells {T = T} output (Err stop) entries → Tells {T = U} output (Err stop) entries
-tells_stop output WriteFault entries tells = tells
-tells_stop output NoMemory entries tells = tells
+pub tells_stop : (T U : Type 0) (output : Known) (stop : Stop) (entries : List Entry) → Tells {T = T} output (Err stop) entries → Tells {T = U} output (Err stop) entries
+tells_stop T U output WriteFault entries tells = tells
+tells_stop T U output NoMemory entries tells = tells
 
 -- more lines behind those that were written
 pub tells_more : {T : Type 0} (before middle now : Option (List ℕ)) (a b c : ℕ) (h e : List Entry) (result : Result T Stop)
@@ -56,3 +61,24 @@ tells_more before middle now a b c h e (Err NoMemory) w quiet (shown, front, wri
 -- nothing is told
 pub tells_none : (told : Option (List ℕ)) (a : ℕ) → Tells {T = Unit {0}} (record { before = told; after = told; faults_before = a; faults_after = a }) (Err NoMemory) []
 tells_none told a = ([], inl refl, appends_none told, refl)
+
+-- a piece of a line was cut short
+pub cut_in : (before middle now : Option (List ℕ)) (a b c : ℕ) (front last more all : List ℕ) → Appends before middle front → b ≡ a → front ++ (last ++ more) ≡ all
+    → Cut (record { before = middle; after = now; faults_before = b; faults_after = c }) [] last
+    → Cut (record { before = before; after = now; faults_before = a; faults_after = c }) [] all
+cut_in before middle now a b c front last more all w quiet e cut = record {
+  front = front ++ cut.front;
+  missing = cut.missing ++ more;
+  split = sym e ∙ ap (λ x. front ++ (x ++ more)) cut.split ∙ ap (λ x. front ++ x) (append_assoc cut.front cut.missing more) ∙ sym (append_assoc front cut.front (cut.missing ++ more));
+  some = λ none. cut.some (no_front cut.missing more none);
+  written = appends_more before middle now front cut.front (front ++ cut.front) refl w cut.written;
+  failed = rose_since a b c (omega (arith, quiet)) cut.failed;
+}
+  where
+    no_front : (x y : List ℕ) → x ++ y ≡ [] → x ≡ []
+    no_front [] y none = refl
+    no_front (n ∷ x) y none = cc
+
+-- the line that tells a bad line of an input
+pub bad_line : (number : ℕ) → codes "0 control REFUSED P21 " ++ (decimal number ++ codes "\n") ≡ end_line (BadScript number)
+bad_line number = ap (λ zero. zero ++ (codes " " ++ (codes "control" ++ (codes " " ++ reply_text (Refused (refusal.BadScript number)))))) (sym (decimal_digit 0 (omega arith)))

@@ -1,5 +1,5 @@
 -- The work on the lines of an input, a line at a time.
-use Rattle.std.proofs.Common.{◌≡◌, ◌⊎◌, ℕ, zero, suc, ◌+◌, ◌*◌, ◌<◌, ◌≤◌, Bool, ◌||◌, false, List, [], ◌∷◌, ◌++◌, length, take, drop, get_or, Option, Result, Ok, Err, refl, sym, ap, subst, ◌∙◌, append_assoc, append-nil, inl, inr, arith}
+use Rattle.std.proofs.Common.{◌≡◌, ℕ, zero, suc, ◌+◌, ◌*◌, ◌<◌, ◌≤◌, Bool, List, [], ◌∷◌, ◌++◌, length, take, drop, get_or, Option, Ok, Err, refl, sym, ap, subst, ◌∙◌, append_assoc, inl, arith}
 use Rattle.std.specs.Io.KnownBytes.{Appends}
 use Rattle.std.proofs.lemmas.List.{take_more, take-append-drop}
 use Rattle.pg_io.specs.Outside.{Known}
@@ -7,18 +7,16 @@ use Rattle.pg_io.proofs.Known.{appends_none}
 use Rattle.mig_json.specs.Migration.{FaultlessTextsAreRead}
 use Rattle.script_text.specs.declared.lines.Line.{Line}
 use Rattle.machine.specs.declared.events.Entry.{Entry}
-use Rattle.machine.specs.declared.states.State.{State}
 use Rattle.machine.specs.declared.tasks.Task.{Task}
 use Rattle.machine.specs.Follows as follow
 use Rattle.machine.specs.Laws.{RunsReachStates}
 use Rattle.machine.specs.Standing.{IsState}
 use Rattle.machine.specs.State.{beginning}
-use Rattle.machine.specs.Step.{Run}
 use Rattle.pgroll_top.specs.declared.ending.Stop.{Stop}
 use Rattle.pgroll_top.specs.declared.ending.Stop.TheVariants.{NoMemory}
 use Rattle.pgroll_top.specs.declared.lanes.Lane.{Lane}
-use Rattle.pgroll_top.specs.Work.{AreTasks, IsHistory, IsTask, first_path, has_refusal, lines_of, numbers}
-use Rattle.pgroll_top.specs.Parts.{Advances, Comes, DoesLine, Tells, Works, new_lane}
+use Rattle.pgroll_top.specs.Work.{AreTasks, IsHistory, first_path, lines_of, numbers}
+use Rattle.pgroll_top.specs.Parts.{Advances, DoesLine, Works, new_lane}
 use Rattle.pgroll_top.proofs.Advancing.{advances_more, advances_none}
 use Rattle.pgroll_top.proofs.Following.{begins_longer, begins_none, follows_begins, follows_more}
 use Rattle.pgroll_top.proofs.Tasks.{some_tasks, tasks_append}
@@ -94,7 +92,7 @@ module _ (lines : List Line) (at : ℕ) (line : Line) (mid new : Lane) (before m
             subst (λ ls. AreTasks ls (w.tasks ++ one ∷ later.0)) (sym all) (tasks_append (take at lines) (line ∷ drop (at + 1) lines) w.tasks (one ∷ later.0) w.are (asks, later.1)),
             follows_begins numbers first_path w.tasks (one ∷ later.0) history entries w.follows (begins_longer numbers (follow.path_after first_path history) one later.0 entries (subst (λ path. follow.Begins numbers path (one ∷ []) entries) w.advances.path begins)),
           ),
-          tells_stop {T = Unit {0}} {U = Bool} (record { before = before; after = now; faults_before = a; faults_after = c }) stop (history ++ entries) told,
+          tells_stop (Unit {0}) Bool (record { before = before; after = now; faults_before = a; faults_after = c }) stop (history ++ entries) told,
         ),
       )
 

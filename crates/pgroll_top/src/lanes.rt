@@ -81,7 +81,13 @@ fn first_path(alloc: Global) -> Result<List<Name>, NoMemory>
 }
 
 // Says a SET. The path is copied first: without memory for it the statement isn't said.
-fn set_path(alloc: Global, core: &mut Core, path: &mut List<Name>, stmt: &Stmt, names: &List<Name>) -> Reply
+fn set_path(
+    alloc: Global,
+    core: &mut Core,
+    path: &mut List<Name>,
+    stmt: &Stmt,
+    names: &List<Name>,
+) -> Reply
     requires { stmt.now ≡ Stmt.SetPath names.now }
     ensures step { Step core.old (Said path.old (Read stmt.now)) result core.new }
     ensures path { path.new ≡ path_by path.old (Said path.old (Read stmt.now)) result }
@@ -108,7 +114,13 @@ fn say(alloc: Global, core: &mut Core, path: &mut List<Name>, stmt: &Stmt) -> Re
 }
 
 // What the engine answers to what was found in a line.
-fn said(alloc: Global, core: &mut Core, path: &mut List<Name>, found: &Option<Stmt>, line: &[u8]) -> Reply
+fn said(
+    alloc: Global,
+    core: &mut Core,
+    path: &mut List<Name>,
+    found: &Option<Stmt>,
+    line: &[u8],
+) -> Reply
     requires { IsReading line.now found.now }
     ensures { (reading : Reading) × ReadsAs line.now reading × Step core.old (Said path.old reading) result core.new
         × (path.new ≡ path_by path.old (Said path.old reading) result) }
@@ -131,7 +143,13 @@ fn answer(alloc: Global, core: &mut Core, path: &mut List<Name>, line: &[u8]) ->
 }
 
 // Writes the line of a reply.
-fn show<K: Sink>(alloc: Global, number: u64, actor: &str, reply: &Reply, out: &mut K) -> Result<(), Stop>
+fn show<K: Sink>(
+    alloc: Global,
+    number: u64,
+    actor: &str,
+    reply: &Reply,
+    out: &mut K,
+) -> Result<(), Stop>
     ensures shows { Shows (known K.held K.faults out.old out.new) (numbered number actor.now reply.now) result }
     ensures later { K.faults out.old ≤ K.faults out.new }
 {
@@ -154,7 +172,13 @@ impl Lane {
     }
 
     // Counts an entry with this reply, and writes its line.
-    fn tell<K: Sink>(&mut self, alloc: Global, actor: &str, reply: &Reply, out: &mut K) -> Result<(), Stop>
+    fn tell<K: Sink>(
+        &mut self,
+        alloc: Global,
+        actor: &str,
+        reply: &Reply,
+        out: &mut K,
+    ) -> Result<(), Stop>
         requires { self.old.number + 1 < 2 ^ 64 }
         ensures counted { self.new ≡ record self.old { number = self.old.number + 1; refused = self.old.refused || refuses reply.now } }
         ensures shows { Shows (known K.held K.faults out.old out.new) (numbered (self.old.number + 1) actor.now reply.now) result }

@@ -1,16 +1,38 @@
+use Rattle.std.proofs.Common.{◌≡◌, ◌+◌, ap, arith, refl, sym, ◌∙◌}
+use Rattle.std.proofs.lemmas.Result.{err_from_is_err_and}
+use Rattle.machine.specs.declared.events.Event.TheVariants as event
+use Rattle.machine.specs.Follows.{goes_on_completing}
+use Rattle.pgroll_top.specs.declared.lanes.Lane.{Lane}
+use Rattle.pgroll_top.proofs.Steps.{lane_fewer_steps, steps_least}
+use Rattle.pgroll_top.proofs.Repeating.{repeat_stopped, repeated, repeats_more}
 use Rattle.pgroll_top.proofs.lanes.Lane.complete.Goals as goal
 
 pub returns-in_err-tell-clause-does : goal.returns-in_err-tell-clause-does
-returns-in_err-tell-clause-does g c = ?
+returns-in_err-tell-clause-does g c =
+    let p = err_from_is_err_and c.from_residual-in_err-tell.result c.from_residual-in_err-tell.ensures.1 in
+    rw (p.1, p.2)
+    (repeat_stopped event.Complete goes_on_completing c.args.self.now c.steps.self c.tell.new.self c.in_ok-reply.reply c.ddl.new.self _ _ _ _ _ _ c.steps.invariant.so_far.0 c.steps.invariant.so_far.1 c.in_ok-reply.ensures.step refl c.in_err-tell.ensures.counted c.in_err-tell.field-0.0 c.in_err-tell.ensures.shows)
 
 pub returns-in_err-tell-clause-few : goal.returns-in_err-tell-clause-few
-returns-in_err-tell-clause-few g c = ?
+returns-in_err-tell-clause-few g c =
+    let counted : c.tell.new.self.number ≡ c.steps.self.number + 1 = ap (λ (lane : Lane). lane.number) c.in_err-tell.ensures.counted in
+    omega (arith, counted, c.steps.invariant.room, steps_least c.steps.self.core)
 
 pub returns-then-not-goes_on_completing-clause-does : goal.returns-then-not-goes_on_completing-clause-does
-returns-then-not-goes_on_completing-clause-does g c = ?
+returns-then-not-goes_on_completing-clause-does g c =
+    repeated event.Complete goes_on_completing c.args.self.now c.steps.self c.tell.new.self c.in_ok-reply.reply c.ddl.new.self _ _ _ _ _ _ c.steps.invariant.so_far.0 c.steps.invariant.so_far.1 c.in_ok-reply.ensures.step refl c.in_ok-tell.ensures.counted c.in_ok-tell.field-0 c.in_ok-tell.ensures.shows (sym c.goes_on_completing.ensures ∙ c.if-not-goes_on_completing.true)
 
 pub returns-then-not-goes_on_completing-clause-few : goal.returns-then-not-goes_on_completing-clause-few
-returns-then-not-goes_on_completing-clause-few g c = ?
+returns-then-not-goes_on_completing-clause-few g c =
+    let counted : c.tell.new.self.number ≡ c.steps.self.number + 1 = ap (λ (lane : Lane). lane.number) c.in_ok-tell.ensures.counted in
+    omega (arith, counted, c.steps.invariant.room, steps_least c.steps.self.core)
 
 pub steps-preserved : goal.steps-preserved
-steps-preserved g c = ?
+steps-preserved g c =
+    let goes : goes_on_completing c.in_ok-reply.reply ≡ _ = sym c.goes_on_completing.ensures ∙ c.if-not-goes_on_completing.false in
+    let fewer = lane_fewer_steps c.steps.self c.tell.new.self c.ddl.new.self c.steps.self.path c.in_ok-reply.reply c.in_ok-reply.ensures.step goes c.in_ok-tell.ensures.counted in
+    let counted : c.tell.new.self.number ≡ c.steps.self.number + 1 = ap (λ (lane : Lane). lane.number) c.in_ok-tell.ensures.counted in
+    record {
+      room = omega (arith, fewer, counted, c.steps.invariant.room);
+      so_far = (_, repeats_more event.Complete goes_on_completing c.args.self.now c.steps.self c.tell.new.self c.in_ok-reply.reply c.ddl.new.self _ _ _ _ _ _ c.steps.invariant.so_far.0 c.steps.invariant.so_far.1 c.in_ok-reply.ensures.step refl c.in_ok-tell.ensures.counted c.in_ok-tell.field-0 c.in_ok-tell.ensures.shows goes);
+    }

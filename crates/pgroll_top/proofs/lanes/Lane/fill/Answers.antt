@@ -1,16 +1,41 @@
+use Rattle.std.proofs.Common.{◌≡◌, ◌+◌, ap, arith, refl, subst, sym, ◌∙◌, []}
+use Rattle.std.proofs.lemmas.Result.{err_from_is_err_and}
+use Rattle.machine.specs.declared.events.Event.TheVariants as event
+use Rattle.machine.specs.Follows.{goes_on_filling}
+use Rattle.machine.specs.Standing.{IsState}
+use Rattle.pgroll_top.specs.declared.lanes.Lane.{Lane}
+use Rattle.pgroll_top.proofs.Emptying.{few_unfilled, lane_fewer}
+use Rattle.pgroll_top.proofs.Repeating.{repeat_stopped, repeated, repeats_more, repeats_none}
 use Rattle.pgroll_top.proofs.lanes.Lane.fill.Goals as goal
 
 pub batches-init : goal.batches-init
-batches-init g c = ?
+batches-init g c = record {
+  stands = c.requires.stands;
+  room = omega (arith, few_unfilled c.args.self.now.core c.requires.stands);
+  so_far = ([], repeats_none (event.Fill 1000) goes_on_filling c.args.self.now (g.K.Sink.held c.args.out.now) (g.K.Sink.faults c.args.out.now));
+}
 
 pub returns-in_err-tell-clause-does : goal.returns-in_err-tell-clause-does
-returns-in_err-tell-clause-does g c = ?
+returns-in_err-tell-clause-does g c =
+    let p = err_from_is_err_and c.from_residual.result c.from_residual.ensures.1 in
+    rw (p.1, p.2)
+    (repeat_stopped (event.Fill 1000) goes_on_filling c.args.self.now c.batches.self c.tell.new.self c.batch-reply.result c.batch-reply.new.self _ _ _ _ _ _ c.batches.invariant.so_far.0 c.batches.invariant.so_far.1 c.batch-reply.ensures.step refl c.in_err-tell.ensures.counted c.in_err-tell.field-0.0 c.in_err-tell.ensures.shows)
 
 pub returns-then-not-goes_on_filling-clause-does : goal.returns-then-not-goes_on_filling-clause-does
-returns-then-not-goes_on_filling-clause-does g c = ?
+returns-then-not-goes_on_filling-clause-does g c =
+    repeated (event.Fill 1000) goes_on_filling c.args.self.now c.batches.self c.tell.new.self c.batch-reply.result c.batch-reply.new.self _ _ _ _ _ _ c.batches.invariant.so_far.0 c.batches.invariant.so_far.1 c.batch-reply.ensures.step refl c.in_ok-tell.ensures.counted c.in_ok-tell.field-0 c.in_ok-tell.ensures.shows (sym c.goes_on_filling.ensures ∙ c.if-not-goes_on_filling.true)
 
 pub batches-smaller-else-not-goes_on_filling-5 : goal.batches-smaller-else-not-goes_on_filling-5
-batches-smaller-else-not-goes_on_filling-5 g t c = ?
+batches-smaller-else-not-goes_on_filling-5 g c =
+    lane_fewer c.batches.self c.tell.new.self c.batch-reply.new.self c.batches.self.path 1000 c.batch-reply.result c.batches.invariant.stands c.batch-reply.ensures.step (sym c.goes_on_filling.ensures ∙ c.if-not-goes_on_filling.false) c.in_ok-tell.ensures.counted
 
 pub batches-preserved-else-not-goes_on_filling-5 : goal.batches-preserved-else-not-goes_on_filling-5
-batches-preserved-else-not-goes_on_filling-5 g c = ?
+batches-preserved-else-not-goes_on_filling-5 g c =
+    let goes : goes_on_filling c.batch-reply.result ≡ _ = sym c.goes_on_filling.ensures ∙ c.if-not-goes_on_filling.false in
+    let fewer = lane_fewer c.batches.self c.tell.new.self c.batch-reply.new.self c.batches.self.path 1000 c.batch-reply.result c.batches.invariant.stands c.batch-reply.ensures.step goes c.in_ok-tell.ensures.counted in
+    let counted : c.tell.new.self.number ≡ c.batches.self.number + 1 = ap (λ (lane : Lane). lane.number) c.in_ok-tell.ensures.counted in
+    record {
+      stands = subst IsState (sym (ap (λ (lane : Lane). lane.core) c.in_ok-tell.ensures.counted)) (c.states_stand.ensures.steps c.batches.self.core (event.Fill 1000) c.batch-reply.result c.batch-reply.new.self c.batch-reply.ensures.step c.batches.invariant.stands);
+      room = omega (arith, fewer, counted, c.batches.invariant.room);
+      so_far = (_, repeats_more (event.Fill 1000) goes_on_filling c.args.self.now c.batches.self c.tell.new.self c.batch-reply.result c.batch-reply.new.self _ _ _ _ _ _ c.batches.invariant.so_far.0 c.batches.invariant.so_far.1 c.batch-reply.ensures.step refl c.in_ok-tell.ensures.counted c.in_ok-tell.field-0 c.in_ok-tell.ensures.shows goes);
+    }
