@@ -7,7 +7,7 @@ use Rattle.machine.specs.declared.events.Reply.{Reply}
 use Rattle.machine.specs.declared.states.State.{State}
 use Rattle.machine.specs.declared.tasks.Task.{Task}
 use Rattle.machine.specs.Follows.{Does, path_after, path_by}
-use Rattle.machine.specs.Step.{Run, Step}
+use Rattle.machine.specs.Step.{LaneRun, LaneStep, Run, Step}
 use Rattle.sql_base.specs.declared.codes.Code.{Code}
 use Rattle.sql_base.specs.declared.stmts.Stmt.TheVariants.{SetPath}
 use Rattle.machine.specs.declared.events.Event.TheVariants.{Said}
@@ -29,6 +29,11 @@ run_append n s [] m e t first second = subst (λ x. Run n x e t) first (let same
 run_append n s (entry ∷ h) m e t first second =
     (first.0, first.1, first.2, run_append (n + 1) first.1 h m e t first.3 (let same : n + length (entry ∷ h) ≡ n + 1 + length h = omega arith in subst (λ k. Run k m e t) same second))
 
+pub lane_run_append : (n : ℕ) (s : State) (h : List Entry) (m : State) (e : List Entry) (t : State) → LaneRun n s h m → LaneRun (n + length h) m e t → LaneRun n s (h ++ e) t
+lane_run_append n s [] m e t first second = subst (λ x. LaneRun n x e t) first (let same : n + 0 ≡ n = omega arith in subst (λ k. LaneRun k m e t) same second)
+lane_run_append n s (entry ∷ h) m e t first second =
+    (first.0, first.1, first.2, lane_run_append (n + 1) first.1 h m e t first.3 (let same : n + length (entry ∷ h) ≡ n + 1 + length h = omega arith in subst (λ k. LaneRun k m e t) same second))
+
 or_assoc : (a b c : Bool) → ((a || b) || c) ≡ (a || (b || c))
 or_assoc true b c = refl
 or_assoc false b c = refl
@@ -44,13 +49,14 @@ refusal_append (entry ∷ h) e = ap (λ b. refuses entry.reply || b) (refusal_ap
 pub advances_more : (old mid new : Lane) (h e : List Entry) → Advances old mid h → Advances mid new e → Advances old new (h ++ e)
 advances_more old mid new h e first second = record {
   run = run_append (old.number + 1) old.core h mid.core e new.core first.run (let same : mid.number + 1 ≡ old.number + 1 + length h = omega (arith, first.number) in subst (λ k. Run k mid.core e new.core) same second.run);
+  lane_run = lane_run_append (old.number + 1) old.core h mid.core e new.core first.lane_run (let same : mid.number + 1 ≡ old.number + 1 + length h = omega (arith, first.number) in subst (λ k. LaneRun k mid.core e new.core) same second.lane_run);
   number = omega (arith, first.number, second.number, length-append h e);
   path = second.path ∙ ap (λ path. path_after path e) first.path ∙ sym (path_append old.path h e);
   refused = second.refused ∙ ap (λ b. b || has_refusal e) first.refused ∙ or_assoc old.refused (has_refusal h) (has_refusal e) ∙ ap (λ b. old.refused || b) (sym (refusal_append h e));
 }
 
 pub advances_none : (lane : Lane) → Advances lane lane []
-advances_none lane = record { run = refl; number = omega arith; path = refl; refused = sym (or_false lane.refused) }
+advances_none lane = record { run = refl; lane_run = refl; number = omega arith; path = refl; refused = sym (or_false lane.refused) }
 
 -- ---- one event
 
@@ -63,11 +69,12 @@ abbrev pub lane_after : Lane → State → List (List ℕ) → Reply → Lane
 lane_after old core path reply = record { core = core; path = path; number = old.number + 1; refused = old.refused || refuses reply }
 
 pub advances_one : (old : Lane) (actor : ℕ) (what : Event) (reply : Reply) (core : State) (path : List (List ℕ)) (new : Lane)
-    → Step old.core what reply core → path ≡ path_by old.path what reply → new ≡ lane_after old core path reply
+    → Step old.core what reply core → LaneStep old.core what reply core → path ≡ path_by old.path what reply → new ≡ lane_after old core path reply
     → Advances old new (entry_of old actor what reply ∷ [])
-advances_one old actor what reply core path new step moved is =
+advances_one old actor what reply core path new step lane_step moved is =
     subst (λ lane. Advances old lane (entry_of old actor what reply ∷ [])) (sym is) (record {
       run = (refl, core, step, refl);
+      lane_run = (refl, core, lane_step, refl);
       number = refl;
       path = moved;
       refused = ap (λ b. old.refused || b) (sym (or_false (refuses reply)));
@@ -79,13 +86,13 @@ comes path one (Err stop) entries does = does_begins numbers path one entries do
 
 -- a task of one event
 pub does_one : (old : Lane) (output : Known) (one : Task) (actor : ℕ) (what : Event) (reply : Reply) (core : State) (path : List (List ℕ)) (new : Lane) (result : Result (Unit {0}) Stop)
-    → Step old.core what reply core → path ≡ path_by old.path what reply → new ≡ lane_after old core path reply
+    → Step old.core what reply core → LaneStep old.core what reply core → path ≡ path_by old.path what reply → new ≡ lane_after old core path reply
     → Shows output (line_of (entry_of old actor what reply)) result
     → Does numbers old.path one (entry_of old actor what reply ∷ [])
     → DoesTask old new output one result
-does_one old output one actor what reply core path new result step moved is shown does =
+does_one old output one actor what reply core path new result step lane_step moved is shown does =
     let entry = entry_of old actor what reply in
-    (entry ∷ [], advances_one old actor what reply core path new step moved is, tells_one output entry result shown, comes old.path one result (entry ∷ []) does)
+    (entry ∷ [], advances_one old actor what reply core path new step lane_step moved is, tells_one output entry result shown, comes old.path one result (entry ∷ []) does)
 
 -- a task of which nothing was done, for want of memory
 pub none_done : (old : Lane) (core : State) → core ≡ old.core → (told : Option (List ℕ)) (a : ℕ) (one : Task)

@@ -23,11 +23,11 @@ pub unread : {T : Type 0} (words : List (List ℕ)) (input output : Known) (stat
     → IsForm words → ReadsFront input.before input.after → IsErrOf {T = T} (Err fault) InputFailed ⊎ Quiet input
     → (IsErrOf {T = T} (Err fault) InputFailed → Faulted input) → (IsErrOf {T = T} (Err fault) TooLong → PassesLimit limit input.before input.after)
     → Closes output [] (end_of_fault fault) status → (h : List Entry) × Explains words input output status h
-unread words input output status InputFailed form front quiet failed long closes = ([], ((beginning, refl), inl (end_of_fault InputFailed, [], (form, failed refl, front, refl, refl), closes)))
+unread words input output status InputFailed form front quiet failed long closes = ([], ((beginning, refl, refl), inl (end_of_fault InputFailed, [], (form, failed refl, front, refl, refl), closes)))
 unread words input output status TooLong form front (inl other) failed long closes = cc
-unread words input output status TooLong form front (inr quiet) failed long closes = ([], ((beginning, refl), inl (end_of_fault TooLong, [], (form, long refl, quiet, refl, refl), closes)))
+unread words input output status TooLong form front (inr quiet) failed long closes = ([], ((beginning, refl, refl), inl (end_of_fault TooLong, [], (form, long refl, quiet, refl, refl), closes)))
 unread words input output status OutOfMemory form front (inl other) failed long closes = cc
-unread words input output status OutOfMemory form front (inr quiet) failed long closes = ([], ((beginning, refl), inl (end_of_fault OutOfMemory, [], (form, inr (refl, front, quiet), inl refl), closes)))
+unread words input output status OutOfMemory form front (inr quiet) failed long closes = ([], ((beginning, refl, refl), inl (end_of_fault OutOfMemory, [], (form, inr (refl, front, quiet), inl refl), closes)))
 
 -- a line behind those that were written
 pub closes_after : (before middle now : Option (List ℕ)) (a b c : ℕ) (whole : List ℕ) (end : End) (status : ℕ)
@@ -58,9 +58,9 @@ pub unscripted : (words : List (List ℕ)) (input output : Known) (status : ℕ)
     → IsForm words → IsInput input text → slice ≡ text → (fault ≢ ScriptMemory → script_of slice ≡ Err fault)
     → Closes output [] (end_of_script fault) status → (h : List Entry) × Explains words input output status h
 unscripted words input output status text slice (BadLine number) form whole same bad closes =
-    ([], ((beginning, refl), inl (BadScript number, [], (form, (text, whole, subst (λ z. script_of z ≡ Err (BadLine number)) same (bad (λ e. cc))), refl, refl), closes)))
+    ([], ((beginning, refl, refl), inl (BadScript number, [], (form, (text, whole, subst (λ z. script_of z ≡ Err (BadLine number)) same (bad (λ e. cc))), refl, refl), closes)))
 unscripted words input output status text slice ScriptMemory form whole same bad closes =
-    ([], ((beginning, refl), inl (WantOfMemory, [], (form, inr (refl, (text, whole.0.taken), whole.2), inl refl), closes)))
+    ([], ((beginning, refl, refl), inl (WantOfMemory, [], (form, inr (refl, (text, whole.0.taken), whole.2), inl refl), closes)))
 
 -- ---- a call that worked
 

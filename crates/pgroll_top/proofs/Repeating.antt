@@ -8,7 +8,7 @@ use Rattle.machine.specs.declared.events.Event.{Event}
 use Rattle.machine.specs.declared.events.Reply.{Reply}
 use Rattle.machine.specs.declared.states.State.{State}
 use Rattle.machine.specs.Follows.{GoOn, UpTo, path_by}
-use Rattle.machine.specs.Step.{Step}
+use Rattle.machine.specs.Step.{LaneStep, Step}
 use Rattle.pgroll_top.specs.declared.ending.Stop.{Stop}
 use Rattle.pgroll_top.specs.declared.ending.Stop.TheVariants.{NoMemory}
 use Rattle.pgroll_top.specs.declared.lanes.Lane.{Lane}
@@ -39,12 +39,12 @@ module _ (what : Event) (goes_on : Reply → Bool) where
 
   module _ (old mid new : Lane) (reply : Reply) (core : State) (before middle now : Option (List ℕ)) (a b c : ℕ) (entries : List Entry)
       (so_far : Repeats old mid (record { before = before; after = middle; faults_before = a; faults_after = b }) entries)
-      (step : Step mid.core what reply core) (still : mid.path ≡ path_by mid.path what reply) (is : new ≡ lane_after mid core mid.path reply) where
+      (step : Step mid.core what reply core) (lane_step : LaneStep mid.core what reply core) (still : mid.path ≡ path_by mid.path what reply) (is : new ≡ lane_after mid core mid.path reply) where
     abbrev entry : Entry
     entry = entry_of mid numbers.control what reply
 
     advanced : Advances old new (entries ++ entry ∷ [])
-    advanced = advances_more old mid new entries (entry ∷ []) so_far.advances (advances_one mid numbers.control what reply core mid.path new step still is)
+    advanced = advances_more old mid new entries (entry ∷ []) so_far.advances (advances_one mid numbers.control what reply core mid.path new step lane_step still is)
 
     told : (result : Result (Unit {0}) Stop) → Shows (record { before = middle; after = now; faults_before = b; faults_after = c }) (line_of entry) result
         → Tells (record { before = before; after = now; faults_before = a; faults_after = c }) result (entries ++ entry ∷ [])

@@ -49,7 +49,7 @@ pub stands_there : RunsReachStates → (lines : List Line) (at : ℕ) (now : Lan
 stands_there law lines at now output history w = law 1 history now.core w.advances.run
 
 pub history_there : (lines : List Line) (at : ℕ) (now : Lane) (output : Known) (history : List Entry) → Worked lines at now output history → IsHistory history
-history_there lines at now output history w = (now.core, w.advances.run)
+history_there lines at now output history w = (now.core, w.advances.run, w.advances.lane_run)
 
 module _ (lines : List Line) (at : ℕ) (line : Line) (mid new : Lane) (before middle now : Option (List ℕ)) (a b c : ℕ) (history : List Entry)
     (w : Worked lines at mid (record { before = before; after = middle; faults_before = a; faults_after = b }) history)
@@ -85,7 +85,7 @@ module _ (lines : List Line) (at : ℕ) (line : Line) (mid new : Lane) (before m
       let advanced = advances_more new_lane mid new history entries w.advances advances in
       let later = some_tasks law (drop (at + 1) lines) in (
         history ++ entries,
-        (new.core, advanced.run),
+        (new.core, advanced.run, advanced.lane_run),
         (
           (
             w.tasks ++ one ∷ later.0,
@@ -114,4 +114,4 @@ worked_all lines at now output history end w = (
 pub stopped_at_once : FaultlessTextsAreRead → (lines : List Line) (told : Option (List ℕ)) (a : ℕ) → (h : List Entry) × IsHistory h × Works lines (record { before = told; after = told; faults_before = a; faults_after = a }) (Err NoMemory) h
 stopped_at_once law lines told a =
     let tasks = some_tasks law lines in
-    ([], (beginning, refl), ((tasks.0, tasks.1, begins_none numbers first_path tasks.0), ([], inl refl, appends_none told, refl)))
+    ([], (beginning, refl, refl), ((tasks.0, tasks.1, begins_none numbers first_path tasks.0), ([], inl refl, appends_none told, refl)))

@@ -13,7 +13,7 @@ use Rattle.machine.specs.declared.events.Reading.TheVariants.{Stmt as Read, Synt
 use Rattle.machine.specs.declared.tasks.Task.{Task}
 use Rattle.machine.specs.Follows as lane
 use Rattle.machine.specs.State.{beginning}
-use Rattle.machine.specs.Step.{Run}
+use Rattle.machine.specs.Step.{LaneRun, Run}
 use Rattle.pgroll_top.specs.declared.ending.End.{End}
 use Rattle.pgroll_top.specs.declared.ending.End.TheVariants.{Done, Refused, ReadFault, InputTooLong, BadScript, WantOfMemory}
 use Rattle.pgroll_top.specs.declared.ending.Stop.{Stop}
@@ -42,6 +42,7 @@ new_lane = record { core = beginning; path = first_path; number = 0; refused = f
 -- The lane went on by these entries.
 pub record Advances (old new : Lane) (entries : List Entry) : Type 0 where
   pub run : Run (old.number + 1) old.core entries new.core
+  pub lane_run : LaneRun (old.number + 1) old.core entries new.core
   pub number : new.number ≡ old.number + length entries
   pub path : new.path ≡ lane.path_after old.path entries
   pub refused : new.refused ≡ (old.refused || has_refusal entries)

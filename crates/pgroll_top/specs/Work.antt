@@ -26,7 +26,7 @@ use Rattle.machine.specs.declared.tasks.Task.{Task}
 use Rattle.machine.specs.declared.tasks.Task.TheVariants as task
 use Rattle.machine.specs.Follows as lane
 use Rattle.machine.specs.State.{beginning, path_name}
-use Rattle.machine.specs.Step.{Run}
+use Rattle.machine.specs.Step.{LaneRun, Run}
 use Rattle.roll_core.specs.Lines as lines
 
 -- ---- actors
@@ -40,9 +40,9 @@ numbers = record { lane = 1; control = 0 }
 
 -- ---- histories
 
--- The entries are numbered from 1, and are steps of the machine, one after another, from the state that a call begins with.
+-- The entries are numbered from 1, and are steps of the machine, one after another, from the state that a call begins with. They are those of one lane: each batch takes the least keys that are to be filled.
 abbrev pub IsHistory : List Entry → Type 0
-IsHistory history = (end : State) × Run 1 beginning history end
+IsHistory history = (end : State) × Run 1 beginning history end × LaneRun 1 beginning history end
 
 -- The lines of a history.
 abbrev pub lines_of : List Entry → List ℕ

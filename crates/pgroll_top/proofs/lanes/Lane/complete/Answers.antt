@@ -11,7 +11,7 @@ pub returns-in_err-tell-clause-does : goal.returns-in_err-tell-clause-does
 returns-in_err-tell-clause-does g c =
     let p = err_from_is_err_and c.from_residual-in_err-tell.result c.from_residual-in_err-tell.ensures.1 in
     rw (p.1, p.2)
-    (repeat_stopped event.Complete goes_on_completing c.args.self.now c.steps.self c.tell.new.self c.in_ok-reply.reply c.ddl.new.self _ _ _ _ _ _ c.steps.invariant.so_far.0 c.steps.invariant.so_far.1 c.in_ok-reply.ensures.step refl c.in_err-tell.ensures.counted c.in_err-tell.field-0.0 c.in_err-tell.ensures.shows)
+    (repeat_stopped event.Complete goes_on_completing c.args.self.now c.steps.self c.tell.new.self c.in_ok-reply.reply c.ddl.new.self _ _ _ _ _ _ c.steps.invariant.so_far.0 c.steps.invariant.so_far.1 c.in_ok-reply.ensures.step c.in_ok-reply.ensures.step refl c.in_err-tell.ensures.counted c.in_err-tell.field-0.0 c.in_err-tell.ensures.shows)
 
 pub returns-in_err-tell-clause-few : goal.returns-in_err-tell-clause-few
 returns-in_err-tell-clause-few g c =
@@ -20,7 +20,7 @@ returns-in_err-tell-clause-few g c =
 
 pub returns-then-not-goes_on_completing-clause-does : goal.returns-then-not-goes_on_completing-clause-does
 returns-then-not-goes_on_completing-clause-does g c =
-    repeated event.Complete goes_on_completing c.args.self.now c.steps.self c.tell.new.self c.in_ok-reply.reply c.ddl.new.self _ _ _ _ _ _ c.steps.invariant.so_far.0 c.steps.invariant.so_far.1 c.in_ok-reply.ensures.step refl c.in_ok-tell.ensures.counted c.in_ok-tell.field-0 c.in_ok-tell.ensures.shows (sym c.goes_on_completing.ensures ∙ c.if-not-goes_on_completing.true)
+    repeated event.Complete goes_on_completing c.args.self.now c.steps.self c.tell.new.self c.in_ok-reply.reply c.ddl.new.self _ _ _ _ _ _ c.steps.invariant.so_far.0 c.steps.invariant.so_far.1 c.in_ok-reply.ensures.step c.in_ok-reply.ensures.step refl c.in_ok-tell.ensures.counted c.in_ok-tell.field-0 c.in_ok-tell.ensures.shows (sym c.goes_on_completing.ensures ∙ c.if-not-goes_on_completing.true)
 
 pub returns-then-not-goes_on_completing-clause-few : goal.returns-then-not-goes_on_completing-clause-few
 returns-then-not-goes_on_completing-clause-few g c =
@@ -34,5 +34,5 @@ steps-preserved g c =
     let counted : c.tell.new.self.number ≡ c.steps.self.number + 1 = ap (λ (lane : Lane). lane.number) c.in_ok-tell.ensures.counted in
     record {
       room = omega (arith, fewer, counted, c.steps.invariant.room);
-      so_far = (_, repeats_more event.Complete goes_on_completing c.args.self.now c.steps.self c.tell.new.self c.in_ok-reply.reply c.ddl.new.self _ _ _ _ _ _ c.steps.invariant.so_far.0 c.steps.invariant.so_far.1 c.in_ok-reply.ensures.step refl c.in_ok-tell.ensures.counted c.in_ok-tell.field-0 c.in_ok-tell.ensures.shows goes);
+      so_far = (_, repeats_more event.Complete goes_on_completing c.args.self.now c.steps.self c.tell.new.self c.in_ok-reply.reply c.ddl.new.self _ _ _ _ _ _ c.steps.invariant.so_far.0 c.steps.invariant.so_far.1 c.in_ok-reply.ensures.step c.in_ok-reply.ensures.step refl c.in_ok-tell.ensures.counted c.in_ok-tell.field-0 c.in_ok-tell.ensures.shows goes);
     }

@@ -19,11 +19,11 @@ pub returns-in_err-tell-clause-does : goal.returns-in_err-tell-clause-does
 returns-in_err-tell-clause-does g c =
     let p = err_from_is_err_and c.from_residual.result c.from_residual.ensures.1 in
     rw (p.1, p.2)
-    (repeat_stopped (event.Fill 1000) goes_on_filling c.args.self.now c.batches.self c.tell.new.self c.batch-reply.result c.batch-reply.new.self _ _ _ _ _ _ c.batches.invariant.so_far.0 c.batches.invariant.so_far.1 c.batch-reply.ensures.step refl c.in_err-tell.ensures.counted c.in_err-tell.field-0.0 c.in_err-tell.ensures.shows)
+    (repeat_stopped (event.Fill 1000) goes_on_filling c.args.self.now c.batches.self c.tell.new.self c.batch-reply.result c.batch-reply.new.self _ _ _ _ _ _ c.batches.invariant.so_far.0 c.batches.invariant.so_far.1 c.batch-reply.ensures.step c.batch-reply.ensures.plain refl c.in_err-tell.ensures.counted c.in_err-tell.field-0.0 c.in_err-tell.ensures.shows)
 
 pub returns-then-not-goes_on_filling-clause-does : goal.returns-then-not-goes_on_filling-clause-does
 returns-then-not-goes_on_filling-clause-does g c =
-    repeated (event.Fill 1000) goes_on_filling c.args.self.now c.batches.self c.tell.new.self c.batch-reply.result c.batch-reply.new.self _ _ _ _ _ _ c.batches.invariant.so_far.0 c.batches.invariant.so_far.1 c.batch-reply.ensures.step refl c.in_ok-tell.ensures.counted c.in_ok-tell.field-0 c.in_ok-tell.ensures.shows (sym c.goes_on_filling.ensures ∙ c.if-not-goes_on_filling.true)
+    repeated (event.Fill 1000) goes_on_filling c.args.self.now c.batches.self c.tell.new.self c.batch-reply.result c.batch-reply.new.self _ _ _ _ _ _ c.batches.invariant.so_far.0 c.batches.invariant.so_far.1 c.batch-reply.ensures.step c.batch-reply.ensures.plain refl c.in_ok-tell.ensures.counted c.in_ok-tell.field-0 c.in_ok-tell.ensures.shows (sym c.goes_on_filling.ensures ∙ c.if-not-goes_on_filling.true)
 
 pub batches-smaller-else-not-goes_on_filling-5 : goal.batches-smaller-else-not-goes_on_filling-5
 batches-smaller-else-not-goes_on_filling-5 g c =
@@ -37,5 +37,5 @@ batches-preserved-else-not-goes_on_filling-5 g c =
     record {
       stands = subst IsState (sym (ap (λ (lane : Lane). lane.core) c.in_ok-tell.ensures.counted)) (c.states_stand.ensures.steps c.batches.self.core (event.Fill 1000) c.batch-reply.result c.batch-reply.new.self c.batch-reply.ensures.step c.batches.invariant.stands);
       room = omega (arith, fewer, counted, c.batches.invariant.room);
-      so_far = (_, repeats_more (event.Fill 1000) goes_on_filling c.args.self.now c.batches.self c.tell.new.self c.batch-reply.result c.batch-reply.new.self _ _ _ _ _ _ c.batches.invariant.so_far.0 c.batches.invariant.so_far.1 c.batch-reply.ensures.step refl c.in_ok-tell.ensures.counted c.in_ok-tell.field-0 c.in_ok-tell.ensures.shows goes);
+      so_far = (_, repeats_more (event.Fill 1000) goes_on_filling c.args.self.now c.batches.self c.tell.new.self c.batch-reply.result c.batch-reply.new.self _ _ _ _ _ _ c.batches.invariant.so_far.0 c.batches.invariant.so_far.1 c.batch-reply.ensures.step c.batch-reply.ensures.plain refl c.in_ok-tell.ensures.counted c.in_ok-tell.field-0 c.in_ok-tell.ensures.shows goes);
     }

@@ -9,5 +9,5 @@ returns-clause-does g c =
     let said = c.answer-reply.ensures in (
       said.0,
       said.1,
-      does_one c.args.self.now _ (task.Say said.0) 1 (event.Said c.args.self.now.path said.0) c.answer-reply.result c.answer-reply.new.core c.answer-reply.new.path c.tell.new.self c.tell.result said.2 said.3 c.tell.ensures.counted c.tell.ensures.shows (record { by = refl; event = refl }),
+      does_one c.args.self.now _ (task.Say said.0) 1 (event.Said c.args.self.now.path said.0) c.answer-reply.result c.answer-reply.new.core c.answer-reply.new.path c.tell.new.self c.tell.result said.2 said.2 said.3 c.tell.ensures.counted c.tell.ensures.shows (record { by = refl; event = refl }),
     )

@@ -21,5 +21,5 @@ pub returns-clause-does : goal.returns-clause-does
 returns-clause-does g c = (
   c.in_ok-asked.field-0,
   c.in_ok-asked.ensures,
-  does_one c.args.self.now _ (task.Start c.in_ok-asked.field-0) 0 (event.Start c.in_ok-asked.field-0) c.in_ok-reply.reply c.ddl.new.self c.args.self.now.path c.tell.new.self c.tell.result c.in_ok-reply.ensures.step refl c.tell.ensures.counted c.tell.ensures.shows (record { by = refl; event = refl }),
+  does_one c.args.self.now _ (task.Start c.in_ok-asked.field-0) 0 (event.Start c.in_ok-asked.field-0) c.in_ok-reply.reply c.ddl.new.self c.args.self.now.path c.tell.new.self c.tell.result c.in_ok-reply.ensures.step c.in_ok-reply.ensures.step refl c.tell.ensures.counted c.tell.ensures.shows (record { by = refl; event = refl }),
 )
