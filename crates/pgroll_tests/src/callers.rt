@@ -1,9 +1,9 @@
 //! Callers of the top call whose own contracts follow from its clauses alone.
-ghost use Rattle.std.specs.Prelude.{◌≡◌, ◌⊎◌, ◌<◌, ◌≤◌, ◌++◌, List, length, IfOk};
+ghost use Rattle.std.specs.Prelude.{◌≡◌, ◌⊎◌, ◌<◌, ◌≤◌, ◌++◌, List, [], Some, length, IfOk};
 ghost use Rattle.pg_io.specs.Causes.{Rose};
 ghost use Rattle.machine.specs.declared.events.Entry.{Entry};
 ghost use Rattle.pgroll_top.specs.declared.ending.End.TheVariants.{Usage, WantOfMemory};
-ghost use Rattle.pgroll_top.specs.Top.{IsForm, end_line, limit, texts};
+ghost use Rattle.pgroll_top.specs.Top.{HasBadLine, IsForm, end_line, limit, texts};
 ghost use Rattle.pgroll_top.specs.Work.{IsHistory, IsShown, Follows, Begins, lines_of};
 
 use pg_io::{MemSink, MemSource};
@@ -35,9 +35,13 @@ pub fn between(alloc: Global, words: &[String], input: &mut MemSource, out: &mut
     ensures usage { ¬ IsForm (texts words.now) → ¬ Rose out.old.faults out.new.faults
         → (result ≡ 2) × (out.new.held ≡ out.old.held ++ end_line Usage) × (input.new.left ≡ input.old.left) }
 
-    // Memory was wanting: the lines of all entries but perhaps the last were written, whole, and then the line that tells it.
-    ensures wanting { result ≡ 6 → (history : List Entry) × (shown : List Entry) × IsHistory history × Begins history input.old.left
-        × IsShown shown history × (out.new.held ≡ out.old.held ++ (lines_of shown ++ end_line WantOfMemory)) }
+    // Memory was wanting, for the input or after its lines were read: the lines of all entries but perhaps the last were written, whole, and then the line that tells it.
+    ensures wanting { result ≡ 6 → (history : List Entry) × (shown : List Entry) × IsHistory history
+        × ((history ≡ []) ⊎ Begins history input.old.left) × IsShown shown history × (out.new.held ≡ out.old.held ++ (lines_of shown ++ end_line WantOfMemory)) }
+
+    // An input with a line that breaks the rules is told, unless memory is wanting or something failed.
+    ensures bad { IsForm (texts words.now) → HasBadLine (Some input.old.left)
+        → ¬ Rose input.old.faults input.new.faults → ¬ Rose out.old.faults out.new.faults → (result ≡ 1) ⊎ (result ≡ 6) }
 
     // A longer input is told, unless memory is wanting or something failed.
     ensures long { IsForm (texts words.now) → limit < length input.old.left

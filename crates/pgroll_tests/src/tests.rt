@@ -1,4 +1,5 @@
 mod calls;
+mod commands;
 mod engine;
 mod statements;
 mod wanting;

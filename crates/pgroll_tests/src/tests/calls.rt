@@ -62,8 +62,8 @@ const EXEC: [(&str, &str); 8] = [
     ),
     // Lines that read as no statement.
     (
-        "\\complete\nSELEC\nINSERT INTO users (id, name) VALUES (1, 'a|b')\n;\n",
-        "1 main ERROR 42601 - -\n2 main ERROR 42601 - -\n3 main ERROR 42601 - -\n4 main ERROR 42601 - -\n",
+        " \\complete\nSELEC\n;\n",
+        "1 main ERROR 42601 - -\n2 main ERROR 42601 - -\n3 main ERROR 42601 - -\n",
     ),
     // Lines that are passed by.
     (
