@@ -1,7 +1,6 @@
 -- What a batch comes to, of the table that was read.
 use Rattle.std.proofs.Common.{arith, ◌≡◌, ◌<◌, ◌≤◌, ℕ, zero, suc, List, [], ◌∷◌, length, map, take, refl, ap, sym, subst, ◌∙◌, Option, Some, None, Result, Ok, Err, option_map}
 use Rattle.std.specs.Prelude.{slice_get, slice_index_or, slice_set}
-use Rattle.std.specs.List.{AllByRecursion}
 use Rattle.sql_base.specs.Outcome.{every}
 use Rattle.machine.specs.declared.causes.Cause.{Cause}
 use Rattle.machine.specs.declared.events.Reply.{Reply}
@@ -9,13 +8,11 @@ use Rattle.machine.specs.declared.states.Mode.{Mode}
 use Rattle.machine.specs.declared.states.Mode.TheVariants.{Calm, Both}
 use Rattle.machine.specs.declared.states.State.{State}
 use Rattle.machine.specs.Accept.{without}
-use Rattle.machine.specs.Migrate.{CommandOutcome, batch_reply, refused_batch}
+use Rattle.machine.specs.Migrate.{batch_reply, refused_batch}
 use Rattle.machine.specs.Standing.{NumbersAscend}
-use Rattle.machine.specs.State.{Shared, name_of, number_of, shared}
-use Rattle.machine.specs.Statement.{Outcome}
+use Rattle.machine.specs.State.{Shared, name_of, shared}
 use Rattle.machine.specs.Step.{as_outcome}
 use Rattle.trigger_pair.specs.Laws.{FilledRowsHold, OldWritesHold}
-use Rattle.roll_core.specs.declared.phases.Phase.{Phase}
 use Rattle.roll_core.specs.declared.phases.Phase.TheVariants.{Paired}
 use Rattle.roll_core.specs.declared.store.StoredRow.{StoredRow}
 use Rattle.roll_core.specs.declared.store.StoredTable.{StoredTable}

@@ -1,5 +1,5 @@
 -- START leaves stored rows that mean what the machine leaves.
-use Rattle.std.proofs.Common.{◌≡◌, ℕ, List, [], ◌∷◌, length, map, refl, ap, sym, subst, ◌∙◌, Bool, true, false, Option, Some, None, Result, Ok, Err, option_map, if◌then◌else◌}
+use Rattle.std.proofs.Common.{◌≡◌, ℕ, List, [], ◌∷◌, map, refl, ap, sym, subst, ◌∙◌, Bool, true, Option, Some, None, Ok, option_map, if◌then◌else◌}
 use Rattle.std.specs.Prelude.{nat_eq}
 use Rattle.std.specs.List.{AllByRecursion, list_any}
 use Rattle.std.specs.Option.{option_and_then, option_map_or, option_or}
@@ -11,7 +11,6 @@ use Rattle.mig_lens.specs.declared.columns.Lens.{Lens}
 use Rattle.mig_lens.specs.declared.columns.Side.TheVariants.{Old, New}
 use Rattle.mig_lens.specs.declared.faults.Kind.{Kind}
 use Rattle.mig_lens.specs.declared.faults.Kind.TheVariants as kind
-use Rattle.mig_lens.specs.declared.faults.Refusal.{Refusal}
 use Rattle.mig_lens.specs.declared.faults.Refusal.TheVariants.{Unfinished}
 use Rattle.mig_lens.specs.declared.migrations.Migration.{Migration}
 use Rattle.mig_lens.specs.declared.plans.Fate.{Fate}
@@ -22,23 +21,22 @@ use Rattle.machine.specs.declared.events.Asked.{Asked}
 use Rattle.machine.specs.declared.events.Asked.TheVariants.{Read, Refused as NotRead}
 use Rattle.machine.specs.declared.events.Reply.{Reply}
 use Rattle.machine.specs.declared.events.Reply.TheVariants as reply_of
-use Rattle.machine.specs.declared.states.Halves.{Halves}
 use Rattle.machine.specs.declared.states.Kept.{Kept}
 use Rattle.machine.specs.declared.states.Mode.{Mode}
 use Rattle.machine.specs.declared.states.Mode.TheVariants.{Calm, Both}
 use Rattle.machine.specs.declared.states.State.{State}
-use Rattle.machine.specs.Migrate.{active, begun as begun_of, begun_half, begun_row, begun_rows, may_not_start, numbers_of, planned, start, started, steps_left, taken, too_heavy, unrun}
-use Rattle.machine.specs.Standing.{IsState, RowStands, RowsStand, StepsStand, TablesStand}
-use Rattle.machine.specs.State.{Shared, lens_among, lens_between, number_of, shape_of, shared, table_on, unfilled}
+use Rattle.machine.specs.Migrate.{active, begun as begun_of, begun_row, begun_rows, may_not_start, numbers_of, planned, start, started, steps_left, taken, too_heavy, unrun}
+use Rattle.machine.specs.Standing.{IsState, RowsStand, StepsStand, TablesStand}
+use Rattle.machine.specs.State.{Shared, lens_among, lens_between, shape_of, shared, table_on}
 use Rattle.machine.proofs.Accepting.{either_none, guarded_ok, without_ok}
 use Rattle.machine.proofs.Moving.{numbers_kept}
 use Rattle.machine.proofs.Pairs.{pair_stands}
 use Rattle.machine.proofs.Starting.{started_stands}
 use Rattle.trigger_pair.specs.declared.pairs.Pair.{Pair}
 use Rattle.trigger_pair.specs.Laws.{BegunRowsHold, IsPair}
-use Rattle.trigger_pair.specs.Stored.{begun, begun_view, is_marked, new_half, new_view, old_view}
+use Rattle.trigger_pair.specs.Stored.{begun, new_half, new_view}
 use Rattle.roll_core.specs.declared.phases.Phase.{Phase}
-use Rattle.roll_core.specs.declared.phases.Phase.TheVariants.{Alone, Paired, Leaving, Trimmed}
+use Rattle.roll_core.specs.declared.phases.Phase.TheVariants.{Alone, Paired}
 use Rattle.roll_core.specs.declared.store.StoredRow.{StoredRow}
 use Rattle.roll_core.specs.declared.store.StoredTable.{StoredTable}
 use Rattle.roll_core.specs.Starting.{begun_stored, begun_table}

@@ -1,10 +1,9 @@
 -- One new row beside the stored ones.
-use Rattle.std.proofs.Common.{arith, ◌≡◌, ◌≤◌, ◌<◌, ◌+◌, ℕ, zero, suc, ℤ, List, [], ◌∷◌, length, map, refl, ap, sym, subst, ◌∙◌, Bool, true, false, ◌||◌, cond, Option, Some, None, Result, Ok, Err, nat_le, nat_lt, int_eq, option_map, if◌then◌else◌}
-use Rattle.std.specs.Prelude.{slice_get, slice_set}
+use Rattle.std.proofs.Common.{arith, ◌≡◌, ◌+◌, ℕ, ℤ, List, [], ◌∷◌, length, map, refl, ap, ◌∙◌, Bool, true, false, ◌||◌, cond, Option, Some, None, Ok, Err, nat_le, nat_lt, int_eq, option_map, if◌then◌else◌}
+use Rattle.std.specs.Prelude.{slice_set}
 use Rattle.std.specs.List.{AllByRecursion}
-use Rattle.std.specs.Option.{option_and_then, option_map_or, option_or}
+use Rattle.std.specs.Option.{option_or}
 use Rattle.std.proofs.lemmas.Bool.Decides.{nat_tests}
-use Rattle.sql_base.specs.Outcome.{and_then, every}
 use Rattle.sql_base.specs.declared.shapes.Unique.{Unique}
 use Rattle.sql_base.specs.declared.values.Value.{Value}
 use Rattle.sql_eval.specs.Row.{least}
@@ -12,19 +11,17 @@ use Rattle.mig_lens.specs.declared.columns.Side.{Side}
 use Rattle.mig_lens.specs.declared.columns.Side.TheVariants.{Old, New}
 use Rattle.mig_lens.specs.Plan.{Table}
 use Rattle.machine.specs.declared.causes.Cause.{Cause}
-use Rattle.machine.specs.declared.events.Reply.{Reply}
 use Rattle.machine.specs.declared.events.Reply.TheVariants.{Insert}
 use Rattle.machine.specs.declared.states.Kept.{Kept}
 use Rattle.machine.specs.declared.states.State.{State}
 use Rattle.machine.specs.Accept.{clashes, clashes_on, has_key, key_cause, present, taken_key, uniques_cause, without}
-use Rattle.machine.specs.Standing.{IsState}
-use Rattle.machine.specs.State.{Found, number_of, put_row, row_count, rows_of, shape_of, table_on, with_rows}
-use Rattle.machine.specs.Statement.{Outcome, keys_of, max_rows, new_row, or_reply, refused_row, together, too_many_rows, write, written}
+use Rattle.machine.specs.State.{Found, number_of, put_row, row_count, shape_of, table_on, with_rows}
+use Rattle.machine.specs.Statement.{Outcome, max_rows, new_row, refused_row, too_many_rows, write, written}
 use Rattle.roll_core.specs.declared.phases.Phase.{Phase}
 use Rattle.roll_core.specs.declared.phases.Phase.TheVariants.{Alone, Paired, Leaving, Trimmed}
 use Rattle.roll_core.specs.declared.store.StoredRow.{StoredRow}
 use Rattle.roll_core.specs.declared.store.StoredTable.{StoredTable}
-use Rattle.roll_core.specs.Store.{AreStored, HasPair, IsStored, IsStoredRow, IsStoredTable, bare, kept, meaning, phase_of, put_stored, rows_meant, stored_count, table_meant, table_place}
+use Rattle.roll_core.specs.Store.{AreStored, HasPair, IsStored, IsStoredRow, IsStoredTable, bare, kept, meaning, phase_of, put_stored, rows_meant, stored_count, table_place}
 use Rattle.roll_core.specs.Views.{cause_beside, has_any, has_uniques, is_full, stored_clash}
 use Rattle.roll_core.proofs.Found.{IsFound}
 use Rattle.roll_core.proofs.Rows.{has_key-kept, put_all_hold, put_kept}

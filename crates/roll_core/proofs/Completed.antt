@@ -1,47 +1,41 @@
 -- The steps of completing leave stored rows that mean what the machine leaves.
-use Rattle.std.proofs.Common.{arith, ◌≡◌, ◌⊎◌, ◌≤◌, ◌<◌, ℕ, zero, suc, ℤ, List, [], ◌∷◌, length, map, filter, refl, ap, sym, subst, ◌∙◌, Bool, true, false, ◌==◌, ◌||◌, cond, Option, Some, None, Result, Ok, Err, inl, inr, is_none, is_some, option_map, if◌then◌else◌}
+use Rattle.std.proofs.Common.{arith, ◌≡◌, ℕ, ℤ, List, [], ◌∷◌, length, map, filter, refl, ap, sym, subst, ◌∙◌, Bool, true, false, ◌==◌, ◌||◌, cond, Option, Some, None, Ok, Err, inl, inr, is_none, is_some, option_map, if◌then◌else◌}
 use Rattle.std.specs.Prelude.{nat_eq}
 use Rattle.std.proofs.lemmas.Bool.Decides.{nat_tests}
 use Rattle.std.specs.List.{AllByRecursion, list_all, list_any}
-use Rattle.std.specs.Option.{option_and_then, option_map_or, option_or}
+use Rattle.std.specs.Option.{option_and_then, option_map_or}
 use Rattle.sql_base.specs.declared.shapes.Schema.{Schema}
 use Rattle.sql_base.specs.declared.values.Value.{Value}
 use Rattle.sql_eval.specs.Row.{least}
 use Rattle.mig_lens.proofs.MadeHalves.{both as both_true}
-use Rattle.mig_lens.specs.declared.columns.Side.TheVariants.{Old, New}
+use Rattle.mig_lens.specs.declared.columns.Side.TheVariants.{New}
 use Rattle.mig_lens.specs.declared.faults.Kind.{Kind}
 use Rattle.mig_lens.specs.declared.faults.Kind.TheVariants as kind
-use Rattle.mig_lens.specs.declared.faults.Refusal.{Refusal}
-use Rattle.mig_lens.specs.declared.faults.Refusal.TheVariants.{NotFilled, NoActive, Unfinished}
+use Rattle.mig_lens.specs.declared.faults.Refusal.TheVariants.{NotFilled, Unfinished}
 use Rattle.mig_lens.specs.declared.plans.Fate.{Fate}
 use Rattle.mig_lens.specs.Plan.{shape_numbered, table_numbered}
 use Rattle.machine.specs.declared.events.Reply.{Reply}
 use Rattle.machine.specs.declared.events.Reply.TheVariants as reply_of
-use Rattle.machine.specs.declared.states.Halves.{Halves}
 use Rattle.machine.specs.declared.states.Kept.{Kept}
 use Rattle.machine.specs.declared.states.Mode.{Mode}
 use Rattle.machine.specs.declared.states.Mode.TheVariants.{Calm, Both}
 use Rattle.machine.specs.declared.states.State.{State}
-use Rattle.machine.specs.Accept.{without}
 use Rattle.machine.specs.Migrate.{CommandOutcome, complete, completed, completed_row, completed_tables, finish, invalid, may_not_complete, not_filled, not_filled_in, not_valid, numbers_of, tidied}
-use Rattle.machine.specs.Standing.{IsState, ModeStands, StepsStand, all_known}
-use Rattle.machine.specs.State.{Shared, missing_keys, name_of, newer_schema, rows_of, shape_of, shared, table_on}
-use Rattle.machine.proofs.Accepting.{either_none, ok_same, without_ok}
-use Rattle.machine.proofs.Moving.{each_among, filter_all}
+use Rattle.machine.specs.Standing.{IsState, ModeStands, StepsStand}
+use Rattle.machine.specs.State.{Shared, name_of, newer_schema, rows_of, shape_of, shared, table_on}
+use Rattle.machine.proofs.Accepting.{either_none, without_ok}
+use Rattle.machine.proofs.Moving.{filter_all}
 use Rattle.machine.proofs.Pairs.{pair_stands}
 use Rattle.trigger_pair.specs.declared.pairs.Pair.{Pair}
 use Rattle.trigger_pair.specs.Laws.{IsPair}
-use Rattle.trigger_pair.specs.Stored.{is_marked, new_half, new_view, old_view}
+use Rattle.trigger_pair.specs.Stored.{is_marked, new_view}
 use Rattle.phase_steps.specs.Laws.{TrimmingKeepsView}
-use Rattle.phase_steps.specs.Rows.{trimmed, trimmed_view}
 use Rattle.roll_core.specs.declared.phases.Phase.{Phase}
 use Rattle.roll_core.specs.declared.phases.Phase.TheVariants.{Alone, Paired, Leaving, Trimmed}
 use Rattle.roll_core.specs.declared.store.StoredRow.{StoredRow}
 use Rattle.roll_core.specs.declared.store.StoredTable.{StoredTable}
 use Rattle.roll_core.specs.Completing.{ordered_stored, ordered_table, trimmed_stored, trimmed_table}
-use Rattle.roll_core.specs.Filling.{is_left}
-use Rattle.roll_core.specs.Store.{AreStored, HasPair, IsLeft, IsStored, IsStoredRow, IsStoredTable, halves_of, kept, meaning, pair_over, phase_in, phase_of, rows_meant, table_meant}
-use Rattle.roll_core.proofs.Filled.{missing_rows}
+use Rattle.roll_core.specs.Store.{AreStored, HasPair, IsLeft, IsStored, IsStoredRow, IsStoredTable, kept, meaning, pair_over, phase_in, phase_of, rows_meant, table_meant}
 use Rattle.roll_core.proofs.Found.{all_shared, not_calm}
 use Rattle.roll_core.proofs.Frames.{is_pair}
 use Rattle.roll_core.proofs.Left.{each_mapped, rows_each}

@@ -1,8 +1,8 @@
 -- A batch of stored rows is the batch of the machine.
-use Rattle.std.proofs.Common.{arith, ◌≡◌, ◌≤◌, ◌<◌, ◌+◌, ℕ, zero, suc, ℤ, List, [], ◌∷◌, length, map, take, filter, refl, ap, sym, subst, ◌∙◌, Bool, true, false, ◌||◌, cond, Option, Some, None, Result, Ok, Err, is_none, nat_lt, int_cmp, int_eq, Ordering, Less, Equal, Greater, option_map, if◌then◌else◌}
-use Rattle.std.specs.Prelude.{slice_get, slice_set, unwrap_or}
+use Rattle.std.proofs.Common.{arith, ◌≡◌, ◌≤◌, ℕ, zero, suc, ℤ, List, [], ◌∷◌, length, map, take, filter, refl, ap, sym, subst, ◌∙◌, Bool, true, false, ◌||◌, cond, Option, Some, None, Result, Ok, Err, is_none, int_cmp, int_eq, Ordering, Less, Equal, Greater, option_map, if◌then◌else◌}
+use Rattle.std.specs.Prelude.{slice_set, unwrap_or}
 use Rattle.std.specs.List.{AllByRecursion, list_any}
-use Rattle.std.specs.Option.{option_map_or, option_or}
+use Rattle.std.specs.Option.{option_map_or}
 use Rattle.std.specs.Ordering.{is_eq, ordering_reverse}
 use Rattle.std.proofs.lemmas.Cmp.{int_cmp_total, tied_itself}
 use Rattle.sql_base.specs.Fit.{row_fits}
@@ -11,9 +11,7 @@ use Rattle.sql_base.specs.declared.faults.EvalFault.{EvalFault}
 use Rattle.sql_base.specs.declared.values.Value.{Value}
 use Rattle.mig_lens.proofs.MadeHalves.{and_then_ok}
 use Rattle.mig_lens.specs.declared.columns.Side.TheVariants.{Old, New}
-use Rattle.mig_lens.specs.declared.faults.Refusal.{Refusal}
 use Rattle.machine.specs.declared.causes.Cause.{Cause}
-use Rattle.machine.specs.declared.events.Reply.{Reply}
 use Rattle.machine.specs.declared.states.Kept.{Kept}
 use Rattle.machine.specs.declared.states.State.{State}
 use Rattle.machine.specs.Accept.{clashes, has_key, sound, without, wrong}
@@ -22,24 +20,22 @@ use Rattle.machine.specs.Standing.{Ascends, IsState, RowStands, RowsStand}
 use Rattle.machine.specs.State.{Shared, missing_keys, name_of, number_of, put_row, put_rows, rows_of, shape_of, shared, table_on, with_rows}
 use Rattle.machine.specs.Statement.{keys_of, made_row}
 use Rattle.machine.proofs.Accepting.{ok_same, without_ok}
-use Rattle.machine.proofs.Joining.{number_on}
-use Rattle.machine.proofs.Pairs.{pair_stands, some_same}
 use Rattle.machine.proofs.Placing.{Above, above_less, ascends_above, ascends_rest, has_key_by_keys, put_ascends, put_known_keys, rows_stand}
 use Rattle.trigger_pair.specs.declared.pairs.Pair.{Pair}
 use Rattle.trigger_pair.specs.Laws.{FilledRowsHold, IsPair, OldWritesHold}
-use Rattle.trigger_pair.specs.Stored.{filled, is_marked, new_half, new_view, old_view}
+use Rattle.trigger_pair.specs.Stored.{filled, is_marked, new_view, old_view}
 use Rattle.roll_core.specs.declared.phases.Phase.{Phase}
-use Rattle.roll_core.specs.declared.phases.Phase.TheVariants.{Alone, Paired, Leaving, Trimmed}
+use Rattle.roll_core.specs.declared.phases.Phase.TheVariants.{Alone, Paired}
 use Rattle.roll_core.specs.declared.store.StoredRow.{StoredRow}
 use Rattle.roll_core.specs.declared.store.StoredTable.{StoredTable}
 use Rattle.roll_core.specs.Filling as fill
 use Rattle.roll_core.specs.Filling.{HasAll, batch_of, filled_clash, filled_made, filled_stored, is_left, put_all, rows_left}
-use Rattle.roll_core.specs.Store.{IsStored, IsStoredRow, RowsAscend, bare, kept, meaning, pair_over, phase_of, put_stored, rows_meant, table_meant, table_place}
+use Rattle.roll_core.specs.Store.{IsStoredRow, RowsAscend, bare, kept, meaning, pair_over, phase_of, put_stored, rows_meant, table_place}
 use Rattle.roll_core.specs.Views.{stored_made, stored_sound}
-use Rattle.roll_core.proofs.Beside.{clashes-meaning, rows_stored}
-use Rattle.roll_core.proofs.Rows.{ascend_bare, put_all_hold, put_kept}
+use Rattle.roll_core.proofs.Beside.{clashes-meaning}
+use Rattle.roll_core.proofs.Rows.{put_all_hold, put_kept}
 use Rattle.roll_core.proofs.Showing.{old_fits}
-use Rattle.roll_core.proofs.Tables.{IsHere, all_set, rows_of-here, with_rows-here}
+use Rattle.roll_core.proofs.Tables.{IsHere, rows_of-here, with_rows-here}
 use Rattle.roll_core.proofs.Writing.{map_ok, paired_old, sound_mapped}
 
 -- ---- which rows a batch takes

@@ -1,18 +1,17 @@
 -- A table that a statement finds, as it is stored.
-use Rattle.std.proofs.Common.{◌≡◌, ◌≤◌, ◌<◌, ℕ, zero, suc, List, [], ◌∷◌, refl, ap, sym, subst, ◌∙◌, Bool, true, false, ◌==◌, Option, Some, None, find, length, nat_eq, option_and_then, option_map, if◌then◌else◌, arith}
-use Rattle.std.specs.List.{AllByRecursion, list_all, list_any}
+use Rattle.std.proofs.Common.{◌≡◌, ℕ, List, [], ◌∷◌, refl, ap, sym, subst, ◌∙◌, Bool, true, false, ◌==◌, Option, Some, None, find, nat_eq, option_and_then, option_map, if◌then◌else◌, arith}
+use Rattle.std.specs.List.{list_all, list_any}
 use Rattle.std.proofs.lemmas.Bool.Decides.{nat_tests}
 use Rattle.mig_lens.proofs.MadeHalves.{both as both_true}
 use Rattle.mig_lens.specs.declared.columns.Side.{Side}
 use Rattle.mig_lens.specs.declared.columns.Side.TheVariants.{Old, New}
 use Rattle.mig_lens.specs.Plan.{Table, shape_numbered, table_numbered}
-use Rattle.machine.specs.declared.states.Kept.{Kept}
 use Rattle.machine.specs.declared.states.Mode.{Mode}
 use Rattle.machine.specs.declared.states.Mode.TheVariants.{Calm, Both}
 use Rattle.machine.specs.declared.states.State.{State}
 use Rattle.machine.specs.Migrate.{numbers_of}
 use Rattle.machine.specs.Standing.{Ascends, IsState, ModeStands, RowsStand}
-use Rattle.machine.specs.State.{Found, Shared, newer_schema, number_of, rows_of, shape_of, shared, table_on}
+use Rattle.machine.specs.State.{Found, Shared, newer_schema, number_of, shape_of, shared, table_on}
 use Rattle.machine.proofs.Joining.{paired}
 use Rattle.machine.proofs.Placing.{rows_stand}
 use Rattle.trigger_pair.specs.declared.pairs.Pair.{Pair}
@@ -20,7 +19,7 @@ use Rattle.trigger_pair.specs.Laws.{IsPair}
 use Rattle.roll_core.specs.declared.phases.Phase.{Phase}
 use Rattle.roll_core.specs.declared.phases.Phase.TheVariants.{Alone, Paired, Leaving, Trimmed}
 use Rattle.roll_core.specs.declared.store.StoredTable.{StoredTable}
-use Rattle.roll_core.specs.Store.{HasPair, IsLeft, IsStored, IsStoredTable, RowsAscend, calm_phase, kept, meaning, pair_over, phase_in, phase_of, rows_meant, stored_numbers, table_place}
+use Rattle.roll_core.specs.Store.{HasPair, IsLeft, IsStored, IsStoredTable, RowsAscend, calm_phase, meaning, pair_over, phase_in, phase_of, rows_meant, stored_numbers, table_place}
 use Rattle.roll_core.specs.Views.{IsOnSide}
 use Rattle.roll_core.proofs.Frames.{alone_calm, is_pair, old_side, table_on-meaning, unshared}
 use Rattle.roll_core.proofs.Rows.{ascend_bare}

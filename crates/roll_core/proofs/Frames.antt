@@ -1,28 +1,22 @@
 -- A frame finds what the state that it means finds; the pairs of tables are those of the state.
-use Rattle.std.proofs.Common.{◌≡◌, ℕ, List, [], ◌∷◌, refl, ap, sym, subst, ◌∙◌, Bool, true, false, Option, Some, None, option_and_then, option_map, if◌then◌else◌, nat_eq, arith}
-use Rattle.std.specs.List.{AllByRecursion, list_any}
+use Rattle.std.proofs.Common.{◌≡◌, ℕ, List, [], ◌∷◌, refl, ap, sym, subst, ◌∙◌, Option, Some, None, option_and_then, option_map}
 use Rattle.std.specs.Option.{option_or}
-use Rattle.std.specs.Str.{bytes_eq}
 use Rattle.sql_eval.specs.Shape.{WellFormed}
-use Rattle.mig_lens.specs.declared.columns.Lens.{Lens}
 use Rattle.mig_lens.specs.declared.columns.Side.{Side}
 use Rattle.mig_lens.specs.declared.columns.Side.TheVariants.{Old, New}
-use Rattle.mig_lens.specs.Plan.{Table, shape_numbered, table_numbered}
-use Rattle.machine.specs.declared.causes.Cause.{Cause}
+use Rattle.mig_lens.specs.Plan.{Table, table_numbered}
 use Rattle.machine.specs.declared.states.Kept.{Kept}
 use Rattle.machine.specs.declared.states.Mode.{Mode}
 use Rattle.machine.specs.declared.states.Mode.TheVariants.{Calm, Both}
 use Rattle.machine.specs.declared.states.State.{State}
-use Rattle.machine.specs.Accept.{sound, wrong}
-use Rattle.machine.specs.State.{Found, Shared, lens_between, newer_called, newer_schema, number_of, path_name, schema_on, shape_of, shared, table_in, table_of, table_on, table_through, version_called}
+use Rattle.machine.specs.Accept.{wrong}
+use Rattle.machine.specs.State.{Shared, lens_between, newer_schema, shape_of, shared, table_of, table_on, table_through}
 use Rattle.machine.specs.Standing.{IsState, ModeStands}
-use Rattle.machine.proofs.Pairs.{FoundStands, PairStands, pair_stands}
-use Rattle.trigger_pair.specs.declared.pairs.Pair.{Pair}
+use Rattle.machine.proofs.Pairs.{pair_stands}
 use Rattle.trigger_pair.specs.Laws.{IsPair}
-use Rattle.roll_core.specs.declared.phases.Phase.{Phase}
-use Rattle.roll_core.specs.declared.phases.Phase.TheVariants.{Alone, Paired, Leaving, Trimmed}
+use Rattle.roll_core.specs.declared.phases.Phase.TheVariants.{Paired}
 use Rattle.roll_core.specs.declared.store.StoredTable.{StoredTable}
-use Rattle.roll_core.specs.Store.{calm_phase, meaning, pair_over, phase_in, phase_of}
+use Rattle.roll_core.specs.Store.{meaning, pair_over, phase_in, phase_of}
 
 -- ---- look-ups
 

@@ -10,8 +10,8 @@ use Rattle.machine.specs.declared.states.Mode.{Mode}
 use Rattle.machine.specs.declared.states.Mode.TheVariants.{Calm, Both}
 use Rattle.machine.specs.declared.states.State.{State}
 use Rattle.machine.specs.Accept.{guarded}
-use Rattle.machine.specs.Migrate.{CommandOutcome, bad_batch, batch, fill_keys, first_of, has_missing, inactive, least_batch, least_fill, may_not_fill, numbers_of, rows_at, steps_left, unfilled_tables}
-use Rattle.machine.specs.Standing.{Ascends, IsState, NumbersAscend, RowsStand}
+use Rattle.machine.specs.Migrate.{CommandOutcome, bad_batch, batch, first_of, has_missing, inactive, least_batch, least_fill, may_not_fill, numbers_of, rows_at, steps_left, unfilled_tables}
+use Rattle.machine.specs.Standing.{Ascends, NumbersAscend, RowsStand}
 use Rattle.machine.specs.State.{Shared, missing_keys, number_of, rows_of, shared}
 use Rattle.machine.proofs.Accepting.{either_none}
 use Rattle.machine.proofs.Joining.{number_on}
@@ -21,15 +21,15 @@ use Rattle.machine.proofs.Placing.{rows_stand}
 use Rattle.trigger_pair.specs.declared.pairs.Pair.{Pair}
 use Rattle.trigger_pair.specs.Laws.{OldWritesHold}
 use Rattle.roll_core.specs.declared.phases.Phase.{Phase}
-use Rattle.roll_core.specs.declared.phases.Phase.TheVariants.{Alone, Paired, Leaving, Trimmed}
+use Rattle.roll_core.specs.declared.phases.Phase.TheVariants.{Paired}
 use Rattle.roll_core.specs.declared.store.StoredRow.{StoredRow}
 use Rattle.roll_core.specs.declared.store.StoredTable.{StoredTable}
-use Rattle.roll_core.specs.Filling.{IsFilling, batch_of, has_left, is_left, left_place}
-use Rattle.roll_core.specs.Store.{AreStored, HasPair, IsStored, IsStoredTable, kept, meaning, pair_over, phase_in, phase_of, rows_meant, stored_numbers, table_meant, table_place}
+use Rattle.roll_core.specs.Filling.{batch_of, has_left, is_left, left_place}
+use Rattle.roll_core.specs.Store.{HasPair, IsStored, IsStoredTable, kept, meaning, pair_over, phase_in, phase_of, rows_meant, stored_numbers, table_meant}
 use Rattle.roll_core.proofs.Filled.{FillsTable, missing_rows}
 use Rattle.roll_core.proofs.Frames.{is_pair}
 use Rattle.roll_core.proofs.Rows.{ascend_bare}
-use Rattle.roll_core.proofs.Tables.{IsHere, all_at, numbers_of-meaning, place_at, rows_of-here}
+use Rattle.roll_core.proofs.Tables.{all_at, numbers_of-meaning, place_at, rows_of-here}
 
 -- ---- elements
 

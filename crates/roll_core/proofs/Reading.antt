@@ -1,5 +1,5 @@
 -- Elements that are read, and the table of a statement where it is read.
-use Rattle.std.proofs.Common.{arith, ◌≡◌, ◌<◌, ◌≤◌, ◌+◌, ℕ, zero, suc, List, [], ◌∷◌, ◌++◌, length, map, take, drop, refl, ap, sym, subst, ◌∙◌, Bool, true, false, Option, Some, None, Result, Ok, Err, option_and_then}
+use Rattle.std.proofs.Common.{arith, ◌≡◌, ◌<◌, ◌+◌, ℕ, zero, suc, List, [], ◌∷◌, ◌++◌, length, take, drop, refl, ap, sym, subst, ◌∙◌, Bool, true, false, Option, Some, None, Result, Ok, Err, option_and_then}
 use Rattle.std.specs.Prelude.{slice_get, slice_index_or, slice_set}
 use Rattle.sql_base.specs.Fit.{row_fits}
 use Rattle.sql_base.specs.declared.values.Value.{Value}
@@ -7,14 +7,13 @@ use Rattle.machine.specs.declared.causes.Cause.{Cause}
 use Rattle.machine.specs.declared.events.Reply.{Reply}
 use Rattle.machine.specs.declared.events.Reply.TheVariants.{Insert}
 use Rattle.machine.specs.declared.states.State.{State}
-use Rattle.machine.specs.Standing.{IsState}
-use Rattle.machine.specs.State.{Found, number_of, shape_of, table_of, table_on}
+use Rattle.machine.specs.State.{Found, number_of, shape_of, table_of}
 use Rattle.machine.specs.Statement.{new_row, refused_row, too_many_rows, write, written}
 use Rattle.machine.proofs.Pairs.{found_stands}
 use Rattle.roll_core.specs.declared.store.StoredRow.{StoredRow}
 use Rattle.roll_core.specs.declared.store.StoredTable.{StoredTable}
-use Rattle.roll_core.specs.Store.{AreStored, IsStored, IsStoredRow, RowsAscend, kept, meaning, phase_of, put_stored, table_place}
-use Rattle.roll_core.specs.Views.{IsAt, IsOnSide, RowIsStored, cause_beside, is_full, new_stored, pair_at}
+use Rattle.roll_core.specs.Store.{AreStored, IsStored, IsStoredRow, kept, meaning, phase_of, table_place}
+use Rattle.roll_core.specs.Views.{IsOnSide, RowIsStored, cause_beside, is_full, new_stored, pair_at}
 use Rattle.roll_core.proofs.Beside.{beside, beside_done, beside_full, beside_refused, with_row, with_row_stored, write_refused, write_row, written_stored}
 use Rattle.roll_core.proofs.Found.{IsFound, found_stored}
 use Rattle.roll_core.proofs.Frames.{table_of-meaning, table_on-meaning}

@@ -1,11 +1,10 @@
 -- Rows in ascending key: places, and one more row.
-use Rattle.std.proofs.Common.{arith, ◌≡◌, ◌≤◌, ◌<◌, ℕ, zero, suc, ℤ, List, [], ◌∷◌, ◌++◌, length, map, take, drop, refl, ap, sym, subst, ◌∙◌, Bool, true, false, ◌||◌, Option, Some, None, int_cmp, int_eq, Ordering, Less, Equal, Greater}
+use Rattle.std.proofs.Common.{arith, ◌≡◌, ◌≤◌, ◌<◌, ℕ, zero, suc, ℤ, List, [], ◌∷◌, length, map, refl, ap, sym, subst, ◌∙◌, Bool, true, false, ◌||◌, Option, Some, int_cmp, int_eq, Ordering, Less, Equal, Greater}
 use Rattle.std.specs.Prelude.{insert, slice_get, slice_set}
 use Rattle.std.specs.List.{AllByRecursion}
 use Rattle.std.specs.Option.{option_map_or}
 use Rattle.std.specs.Ordering.{is_eq, match_ordering, ordering_reverse}
 use Rattle.std.proofs.lemmas.Cmp.{int_cmp_total}
-use Rattle.machine.specs.declared.states.Kept.{Kept}
 use Rattle.machine.specs.Accept.{has_key}
 use Rattle.machine.specs.State.{put_row}
 use Rattle.machine.specs.Standing.{Ascends}

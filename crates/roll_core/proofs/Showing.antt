@@ -15,23 +15,23 @@ use Rattle.machine.specs.declared.events.Reply.TheVariants.{Select}
 use Rattle.machine.specs.declared.states.Kept.{Kept}
 use Rattle.machine.specs.declared.states.State.{State}
 use Rattle.machine.specs.Standing.{HalfStands, RowStands, RowsStand}
-use Rattle.machine.specs.State.{Found, Shared, number_of, rows_of, shape_of, shared, shown, shown_by, table_on, unfilled, unfilled_value}
+use Rattle.machine.specs.State.{Found, Shared, number_of, rows_of, shape_of, shared, shown_by, table_on, unfilled, unfilled_value}
 use Rattle.machine.specs.Statement.{Outcome, long_reply, max_reply, no_value, or_reply, picked, picked_row, select_rows}
 use Rattle.machine.specs.declared.stops.Stop.{Stop}
 use Rattle.machine.specs.declared.stops.Stop.TheVariants.{Because, NoMemory}
 use Rattle.machine.specs.Stops.{Answers as GivesRows}
 use Rattle.machine.proofs.Pairs.{pair_stands}
 use Rattle.trigger_pair.specs.declared.pairs.Pair.{Pair}
-use Rattle.trigger_pair.specs.Laws.{BegunRowsHold, Holds, IsPair}
-use Rattle.trigger_pair.specs.Stored.{begun, begun_value, begun_view, is_marked, new_half, new_view, old_view}
+use Rattle.trigger_pair.specs.Laws.{BegunRowsHold, IsPair}
+use Rattle.trigger_pair.specs.Stored.{begun, begun_value, is_marked, new_view, old_view}
 use Rattle.roll_core.specs.declared.phases.Phase.{Phase}
 use Rattle.roll_core.specs.declared.phases.Phase.TheVariants.{Alone, Paired, Leaving, Trimmed}
 use Rattle.roll_core.specs.declared.store.StoredRow.{StoredRow}
 use Rattle.roll_core.specs.declared.store.StoredTable.{StoredTable}
 use Rattle.roll_core.specs.Engine.{Answers}
 use Rattle.roll_core.specs.Store.{IsStored, IsStoredRow, halves_of, kept, meaning, pair_over, phase_of, rows_meant}
-use Rattle.roll_core.specs.Views.{IsOnSide, picked_stored, selected, view}
-use Rattle.roll_core.proofs.Found.{HasLeft, IsAlone, IsFound, IsPaired, Suits, found_stored}
+use Rattle.roll_core.specs.Views.{picked_stored, selected, view}
+use Rattle.roll_core.proofs.Found.{IsFound, Suits}
 use Rattle.roll_core.proofs.Tables.{rows_of-here}
 
 -- ---- one row

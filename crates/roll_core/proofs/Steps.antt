@@ -1,5 +1,5 @@
 -- Each answer of a call is a step of the machine.
-use Rattle.std.proofs.Common.{◌≡◌, ◌⊎◌, ◌∙◌, ℕ, List, Result, Ok, Err, true, refl, sym, ap, subst, inl, inr}
+use Rattle.std.proofs.Common.{◌≡◌, ℕ, List, Result, Ok, Err, refl, sym, ap, subst, inl, inr}
 use Rattle.machine.specs.declared.events.Event.{Event}
 use Rattle.machine.specs.declared.events.Event.TheVariants as event_of
 use Rattle.machine.specs.declared.events.Reading.TheVariants.{Stmt as Read}
@@ -10,11 +10,11 @@ use Rattle.machine.specs.declared.stops.Stop.{Stop}
 use Rattle.machine.specs.declared.stops.Stop.TheVariants.{Because, NoMemory}
 use Rattle.mig_lens.specs.declared.faults.Refusal.{Refusal}
 use Rattle.sql_base.specs.declared.stmts.Stmt.{Stmt}
-use Rattle.machine.specs.Laws.{PlainStepsAreSteps, RefusalsChangeNothing, StepsKeepStates, leaves_all}
-use Rattle.machine.specs.Migrate.{CommandOutcome, least_fill}
+use Rattle.machine.specs.Laws.{PlainStepsAreSteps, StepsKeepStates}
+use Rattle.machine.specs.Migrate.{least_fill}
 use Rattle.machine.specs.Standing.{IsState}
-use Rattle.machine.specs.Statement.{Outcome, answer, no_memory}
-use Rattle.machine.specs.Step.{ComesTo, FindsNoMemory, Step, as_outcome}
+use Rattle.machine.specs.Statement.{Outcome, answer}
+use Rattle.machine.specs.Step.{ComesTo, Step, as_outcome}
 use Rattle.roll_core.specs.declared.commands.Cmd.{Cmd}
 use Rattle.roll_core.specs.declared.commands.Cmd.TheVariants.{Start, Complete}
 use Rattle.roll_core.specs.declared.store.StoredTable.{StoredTable}

@@ -1,5 +1,5 @@
 -- Stored tables, and the tables of the state that they mean.
-use Rattle.std.proofs.Common.{arith, ◌≡◌, ◌≤◌, ◌<◌, ◌+◌, ◌==◌, ℕ, zero, suc, List, [], ◌∷◌, length, map, refl, ap, sym, subst, ◌∙◌, Bool, true, false, ◌||◌, Option, Some, None, find, nat_eq, if◌then◌else◌, le_of_eq, le_of_lt, lt_of_le_of_lt}
+use Rattle.std.proofs.Common.{arith, ◌≡◌, ◌≤◌, ◌<◌, ◌==◌, ℕ, zero, suc, List, [], ◌∷◌, length, map, refl, ap, sym, subst, ◌∙◌, Bool, true, false, ◌||◌, Some, find, nat_eq, if◌then◌else◌, le_of_eq, le_of_lt, lt_of_le_of_lt}
 use Rattle.std.specs.Prelude.{slice_get, slice_set, sum_by}
 use Rattle.std.specs.List.{AllByRecursion, list_any}
 use Rattle.std.specs.Option.{option_map_or}

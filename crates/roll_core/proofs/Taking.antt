@@ -1,5 +1,5 @@
 -- The rows that a batch fills, one after another.
-use Rattle.std.proofs.Common.{arith, ◌≡◌, ◌≢◌, ◌≤◌, ◌-◌, ℕ, zero, suc, List, [], ◌∷◌, ◌++◌, length, map, take, filter, refl, ap, sym, subst, ◌∙◌, Bool, true, false, cond, Result, Ok, Err, append_assoc, length-append}
+use Rattle.std.proofs.Common.{arith, ◌≡◌, ◌≢◌, ◌≤◌, ◌-◌, ℕ, suc, List, [], ◌∷◌, ◌++◌, length, map, take, filter, refl, ap, sym, subst, ◌∙◌, true, false, Result, Ok, Err, append_assoc, length-append}
 use Rattle.sql_base.specs.Outcome.{and_then, every}
 use Rattle.machine.specs.declared.causes.Cause.{Cause}
 use Rattle.machine.specs.declared.states.State.{State}

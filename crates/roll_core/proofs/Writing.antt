@@ -1,5 +1,5 @@
 -- A new row that is stored is the row that the machine makes.
-use Rattle.std.proofs.Common.{◌≡◌, ℕ, ℤ, List, [], ◌∷◌, length, refl, ap, sym, subst, ◌∙◌, Bool, true, false, Option, Some, None, Result, Ok, Err, if◌then◌else◌}
+use Rattle.std.proofs.Common.{◌≡◌, ℕ, ℤ, List, length, refl, ap, sym, subst, ◌∙◌, Bool, true, false, Option, Some, None, Result, Ok, Err, if◌then◌else◌}
 use Rattle.sql_base.specs.Fit.{row_fits}
 use Rattle.sql_base.specs.Outcome.{and_then}
 use Rattle.sql_base.specs.declared.faults.EvalFault.{EvalFault}
@@ -20,7 +20,7 @@ use Rattle.machine.proofs.Accepting.{ok_same, without_ok}
 use Rattle.machine.proofs.Pairs.{pair_stands, some_same}
 use Rattle.trigger_pair.specs.declared.pairs.Pair.{Pair}
 use Rattle.trigger_pair.specs.Laws.{Holds, IsPair, NewWritesHold, OldWritesHold}
-use Rattle.trigger_pair.specs.Stored.{is_marked, new_half, new_view, old_view, stored_row}
+use Rattle.trigger_pair.specs.Stored.{new_half, new_view, stored_row}
 use Rattle.phase_steps.specs.Laws.{LeavingRowsShow, TrimmingKeepsView}
 use Rattle.phase_steps.specs.Rows.{leaving_row, trimmed, trimmed_view}
 use Rattle.roll_core.specs.declared.phases.Phase.{Phase}
@@ -28,9 +28,9 @@ use Rattle.roll_core.specs.declared.phases.Phase.TheVariants.{Alone, Paired, Lea
 use Rattle.roll_core.specs.declared.store.StoredRow.{StoredRow}
 use Rattle.roll_core.specs.declared.store.StoredTable.{StoredTable}
 use Rattle.roll_core.specs.Store.{IsStored, IsStoredRow, halves_of, kept, meaning, pair_over, phase_of}
-use Rattle.roll_core.specs.Views.{IsOnSide, new_stored, stored_made, stored_sound, stored_values, trimmed_row}
-use Rattle.roll_core.proofs.Found.{HasLeft, IsAlone, IsFound, IsPaired, Suits}
-use Rattle.roll_core.proofs.Frames.{table_on-meaning, wrong-meaning}
+use Rattle.roll_core.specs.Views.{IsOnSide, new_stored, stored_made, stored_sound, stored_values}
+use Rattle.roll_core.proofs.Found.{IsFound, Suits}
+use Rattle.roll_core.proofs.Frames.{wrong-meaning}
 
 -- What is made of a value, where there is one.
 abbrev pub map_ok : {T U E : Type 0} → (T → U) → Result T E → Result U E

@@ -1,5 +1,5 @@
 -- What a batch fills of stored rows.
-use Rattle.std.specs.Prelude.{◌≡◌, ℕ, suc, ℤ, true, false, Bool, List, [], ◌∷◌, Option, Some, None, Result, Ok, Err, map, slice_get, take, if◌then◌else◌}
+use Rattle.std.specs.Prelude.{◌≡◌, ℕ, suc, ℤ, true, false, Bool, List, [], ◌∷◌, Option, Some, None, Result, Ok, map, slice_get, take, if◌then◌else◌}
 use Rattle.std.specs.List.{AllByRecursion, filter, list_any}
 use Rattle.sql_base.specs.Outcome.{and_then}
 use Rattle.sql_base.specs.declared.faults.EvalFault.{EvalFault}

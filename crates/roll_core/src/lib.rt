@@ -10,6 +10,7 @@ mod batch;
 mod commands;
 mod complete;
 mod engine;
+mod filling;
 mod insert;
 mod meaning;
 mod phases;
@@ -18,6 +19,7 @@ mod select;
 mod start;
 mod store;
 mod views;
+mod written;
 
 pub use commands::Cmd;
 pub use engine::Core;

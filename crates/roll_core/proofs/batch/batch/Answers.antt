@@ -1,4 +1,4 @@
-use Rattle.std.proofs.Common.{arith, rules, ◌≡◌, ◌≤◌, ◌<◌, ◌∙◌, Err, length, refl, ap, subst}
+use Rattle.std.proofs.Common.{arith, rules, ◌≡◌, ◌≤◌, ◌<◌, ◌∙◌, Err, length, refl, ap}
 use Rattle.std.specs.Prelude.{map, slice_index_or, take}
 use Rattle.sql_base.specs.Outcome.{every}
 use Rattle.machine.specs.Migrate.{batch_reply}

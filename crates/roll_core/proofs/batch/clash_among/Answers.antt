@@ -1,4 +1,4 @@
-use Rattle.std.proofs.Common.{◌≡◌, ◌∙◌, ℤ, List, [], ◌∷◌, ◌++◌, IfOk, ap, map, subst}
+use Rattle.std.proofs.Common.{◌≡◌, ◌∙◌, ℤ, List, IfOk, ap, map, subst}
 use Rattle.mig_lens.specs.declared.columns.Side.TheVariants.{New}
 use Rattle.machine.specs.Accept.{clashes}
 use Rattle.machine.specs.State.{put_rows}

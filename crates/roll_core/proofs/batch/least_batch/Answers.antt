@@ -1,9 +1,6 @@
-use Rattle.std.proofs.Common.{arith, rules, ◌≡◌, ◌≤◌, ◌<◌, ◌∙◌, Some, length, refl, sym, ap, subst}
+use Rattle.std.proofs.Common.{rules, ◌≡◌, ◌<◌, ◌∙◌, Some, length, sym, ap, subst}
 use Rattle.std.specs.Prelude.{slice_get, slice_index_or}
-use Rattle.machine.specs.Migrate.{least_fill}
 use Rattle.machine.specs.Plain.{pair}
-use Rattle.machine.specs.State.{shared}
-use Rattle.machine.specs.Statement.{Outcome}
 use Rattle.machine.specs.Step.{as_outcome}
 use Rattle.roll_core.specs.Engine.{Answers}
 use Rattle.roll_core.specs.Filling.{left_place}

@@ -1,4 +1,4 @@
-use Rattle.std.proofs.Common.{arith, ◌≡◌, ◌+◌, length, ap}
+use Rattle.std.proofs.Common.{arith, length, ap}
 use Rattle.roll_core.specs.Filling.{put_all}
 use Rattle.roll_core.proofs.Filled.{put_end, put_next, put_step}
 use Rattle.roll_core.proofs.batch.replace_all.Goals as goal

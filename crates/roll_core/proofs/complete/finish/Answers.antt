@@ -1,6 +1,4 @@
-use Rattle.std.proofs.Common.{arith, rules, ◌≡◌, ◌<◌, ◌∙◌, false, Some, None, Result, Ok, Err, List, length, map, refl, sym, ap, subst}
-use Rattle.mig_lens.specs.declared.faults.Refusal.{Refusal}
-use Rattle.machine.specs.declared.events.Reply.{Reply}
+use Rattle.std.proofs.Common.{◌≡◌, ◌∙◌, Ok, sym, ap, subst}
 use Rattle.machine.specs.declared.states.State.{State}
 use Rattle.machine.specs.Migrate.{complete}
 use Rattle.roll_core.specs.Store.{AreStored, meaning}

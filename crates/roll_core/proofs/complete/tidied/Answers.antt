@@ -1,7 +1,6 @@
-use Rattle.std.proofs.Common.{arith, rules, ◌≡◌, ◌<◌, ◌∙◌, false, Some, None, Result, Ok, Err, List, length, map, refl, sym, ap, subst}
+use Rattle.std.proofs.Common.{◌≡◌, ◌∙◌, Ok, List, map, sym, ap, subst}
 use Rattle.mig_lens.specs.declared.faults.Kind.TheVariants as kind
 use Rattle.machine.specs.declared.events.Reply.TheVariants as reply_of
-use Rattle.machine.specs.declared.states.State.{State}
 use Rattle.roll_core.specs.declared.store.StoredTable.{StoredTable}
 use Rattle.roll_core.specs.Completing.{ordered_table, trimmed_table}
 use Rattle.roll_core.specs.Store.{AreStored, meaning}

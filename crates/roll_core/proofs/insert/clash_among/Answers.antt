@@ -1,6 +1,5 @@
-use Rattle.std.proofs.Common.{◌≡◌, ◌∙◌, ℤ, List, [], ◌∷◌, ◌++◌, IfOk, ap, subst}
+use Rattle.std.proofs.Common.{◌≡◌, ◌∙◌, List, [], ◌∷◌, ◌++◌, IfOk, ap, subst}
 use Rattle.machine.specs.Accept.{clashes}
-use Rattle.machine.specs.Plain.{found}
 use Rattle.machine.specs.State.{number_of, put_rows}
 use Rattle.machine.specs.Statement.{keys_of}
 use Rattle.machine.specs.declared.states.Kept.{Kept}

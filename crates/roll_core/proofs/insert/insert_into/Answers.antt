@@ -1,5 +1,4 @@
-use Rattle.std.proofs.Common.{arith, rules, ◌≡◌, ◌<◌, ◌∙◌, false, Some, None, Ok, Err, length, refl, sym, ap, subst}
-use Rattle.machine.specs.Plain.{found}
+use Rattle.std.proofs.Common.{◌∙◌, sym}
 use Rattle.machine.specs.State.{number_of, shape_of}
 use Rattle.machine.proofs.Inserting.{new_values_fit}
 use Rattle.roll_core.specs.Store.{meaning}

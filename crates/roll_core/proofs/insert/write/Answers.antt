@@ -1,4 +1,4 @@
-use Rattle.std.proofs.Common.{arith, rules, ◌≡◌, ◌<◌, ◌∙◌, false, Some, None, Ok, Err, length, refl, sym, ap, subst}
+use Rattle.std.proofs.Common.{rules, ◌≡◌, ◌<◌, ◌∙◌, Err, length, refl, sym, ap, subst}
 use Rattle.machine.specs.Plain.{found}
 use Rattle.machine.specs.Statement.{refused_row}
 use Rattle.roll_core.specs.Engine.{Answers}

@@ -1,4 +1,4 @@
-use Rattle.std.proofs.Common.{arith, rules, ◌≡◌, ◌<◌, ◌∙◌, false, Some, None, Ok, Err, length, refl, sym, ap, subst}
+use Rattle.std.proofs.Common.{rules, ◌≡◌, ◌<◌, ◌∙◌, false, length, refl, sym, subst}
 use Rattle.roll_core.proofs.Beside.{beside_fresh}
 use Rattle.machine.specs.Plain.{found}
 use Rattle.machine.specs.Accept.{has_key}

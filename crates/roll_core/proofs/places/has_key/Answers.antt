@@ -1,9 +1,8 @@
-use Rattle.std.proofs.Common.{◌≡◌, ◌∙◌, false, Option, Some, None, int_eq, ap}
+use Rattle.std.proofs.Common.{◌∙◌, false, Option, int_eq, ap}
 use Rattle.std.specs.Prelude.{slice_get}
 use Rattle.std.specs.Option.{option_map_or}
 use Rattle.roll_core.specs.declared.store.StoredRow.{StoredRow}
-use Rattle.roll_core.specs.Store.{place}
-use Rattle.roll_core.proofs.Rows.{has_key-place, holds_at}
+use Rattle.roll_core.proofs.Rows.{has_key-place}
 use Rattle.roll_core.proofs.places.has_key.Goals as goal
 
 pub returns-in-Some : goal.returns-in-Some

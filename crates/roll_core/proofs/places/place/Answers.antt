@@ -1,7 +1,5 @@
-use Rattle.std.proofs.Common.{arith, ◌≡◌, ◌≤◌, ◌<◌, ◌+◌, ◌-◌, ◌/◌, ◌∙◌, ℕ, Some, Greater, int_cmp, length, refl, sym, ap}
-use Rattle.std.specs.Prelude.{slice_get, slice_index_or}
-use Rattle.roll_core.specs.Store.{place}
-use Rattle.roll_core.specs.declared.store.StoredRow.{StoredRow}
+use Rattle.std.proofs.Common.{arith, ◌≡◌, ◌<◌, ◌+◌, ◌-◌, ◌/◌, ◌∙◌, ℕ, Greater, int_cmp, length, sym}
+use Rattle.std.specs.Prelude.{slice_index_or}
 use Rattle.roll_core.proofs.Reading.{is_got}
 use Rattle.roll_core.proofs.Rows.{place_past, place_upto, place_within}
 use Rattle.roll_core.proofs.places.place.Goals as goal

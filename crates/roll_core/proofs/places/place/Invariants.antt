@@ -1,4 +1,4 @@
-use Rattle.std.proofs.Common.{◌≡◌, ◌≤◌, ◌-◌, length}
+use Rattle.std.proofs.Common.{◌≤◌, ◌-◌, length}
 use Rattle.roll_core.specs.Store.{place}
 use Rattle.roll_core.proofs.places.place.Given as goal
 

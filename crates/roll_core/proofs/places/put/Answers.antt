@@ -1,4 +1,4 @@
-use Rattle.std.proofs.Common.{rules, ◌≡◌, ◌≤◌, ◌∙◌, Ok, Err, OnOk, length, subst, sym, ap}
+use Rattle.std.proofs.Common.{◌≡◌, ◌≤◌, ◌∙◌, OnOk, length, subst, sym, ap}
 use Rattle.std.specs.Prelude.{insert}
 use Rattle.roll_core.specs.Store.{place, put_stored}
 use Rattle.roll_core.proofs.Rows.{place_within, put_fresh}

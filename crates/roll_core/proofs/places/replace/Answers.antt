@@ -1,6 +1,6 @@
 use Rattle.std.proofs.Common.{◌≡◌, ◌<◌, ◌∙◌, length, subst, sym, ap}
 use Rattle.std.specs.Prelude.{slice_set}
-use Rattle.roll_core.specs.Store.{place, put_stored}
+use Rattle.roll_core.specs.Store.{place}
 use Rattle.roll_core.proofs.Rows.{put_known}
 use Rattle.roll_core.proofs.places.replace.Goals as goal
 

@@ -1,4 +1,3 @@
-use Rattle.std.proofs.Common.{arith, rules, ◌≡◌, ◌<◌, ◌∙◌, false, Some, None, Ok, Err, length, refl, sym, ap, subst}
 use Rattle.machine.specs.Plain.{found}
 use Rattle.roll_core.proofs.Reading.{on_side}
 use Rattle.roll_core.proofs.select.select.Goals as goal

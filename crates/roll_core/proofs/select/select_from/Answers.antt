@@ -1,4 +1,4 @@
-use Rattle.std.proofs.Common.{List, arith, rules, ◌≡◌, ◌<◌, ◌∙◌, false, Some, None, Ok, Err, length, refl, sym, ap, subst}
+use Rattle.std.proofs.Common.{List, rules, ◌≡◌, ◌<◌, ◌∙◌, None, length, sym, ap, subst}
 use Rattle.machine.proofs.Faultless.{no_fault}
 use Rattle.machine.specs.Plain.{fault_of, found}
 use Rattle.machine.specs.Stops.{Answers as GivesRows}
@@ -7,7 +7,6 @@ use Rattle.machine.specs.State.{number_of, rows_of, shape_of}
 use Rattle.machine.specs.Statement.{select_from, select_rows, typed, untyped}
 use Rattle.machine.specs.declared.events.Reply.{Reply}
 use Rattle.roll_core.specs.declared.store.StoredTable.{StoredTable}
-use Rattle.roll_core.specs.Engine.{Answers}
 use Rattle.roll_core.specs.Store.{meaning, phase_of}
 use Rattle.roll_core.specs.Views.{selected}
 use Rattle.roll_core.proofs.Reading.{read_found}

@@ -1,8 +1,6 @@
-use Rattle.std.proofs.Common.{arith, rules, ◌≡◌, ◌<◌, ◌∙◌, false, Some, None, Result, Ok, Err, List, length, map, refl, sym, ap, subst}
-use Rattle.machine.specs.declared.events.Reply.{Reply}
+use Rattle.std.proofs.Common.{◌≡◌, ◌∙◌, Ok, map, sym, ap, subst}
 use Rattle.machine.specs.declared.states.State.{State}
 use Rattle.machine.specs.Migrate.{start}
-use Rattle.roll_core.specs.declared.store.StoredTable.{StoredTable}
 use Rattle.roll_core.specs.Starting.{begun_table}
 use Rattle.roll_core.specs.Store.{AreStored, meaning}
 use Rattle.roll_core.proofs.Begun.{started_stored}

@@ -1,4 +1,4 @@
-use Rattle.std.proofs.Common.{◌≡◌, ◌∙◌, length, refl, sym, ap, subst}
+use Rattle.std.proofs.Common.{◌∙◌, length, sym, ap, subst}
 use Rattle.machine.specs.declared.events.Event.TheVariants.{Fill}
 use Rattle.machine.specs.Migrate.{least_fill}
 use Rattle.machine.specs.Step.{Step, as_outcome}

@@ -1,4 +1,3 @@
-use Rattle.std.proofs.Common.{arith, rules, ◌≡◌, ◌<◌, ◌∙◌, false, Some, None, Result, Ok, Err, List, length, map, refl, sym, ap, subst}
 use Rattle.roll_core.specs.declared.commands.Cmd.TheVariants.{Start, Complete}
 use Rattle.roll_core.proofs.Steps.{command_stored}
 use Rattle.roll_core.proofs.engine.Core.command.Goals as goal

@@ -1,4 +1,4 @@
-use Rattle.std.proofs.Common.{◌≡◌, ◌∙◌, length, refl, sym, ap, subst}
+use Rattle.std.proofs.Common.{◌∙◌, length, refl, sym, ap, subst}
 use Rattle.machine.specs.declared.events.Event.TheVariants.{Said}
 use Rattle.machine.specs.declared.events.Reading.TheVariants.{Stmt as Read}
 use Rattle.machine.specs.Step.{Step}

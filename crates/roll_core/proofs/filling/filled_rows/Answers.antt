@@ -1,10 +1,9 @@
 use Rattle.std.proofs.Common.{rules, ◌≡◌, ◌≢◌, ◌+◌, ◌∙◌, List, drop, length, sym}
 use Rattle.roll_core.specs.declared.store.StoredRow.{StoredRow}
-use Rattle.roll_core.specs.Filling.{is_left}
 use Rattle.roll_core.proofs.Reading.{drop_is}
 use Rattle.roll_core.proofs.Taking.{fills_next, fills_passed, fills_stopped, stopped}
-use Rattle.roll_core.proofs.batch.filled_rows.Goals as goal
-use Rattle.roll_core.proofs.batch.filled_rows.Goals.{then-is_left+in_ok-filled_row+in_ok-push, else-is_left}
+use Rattle.roll_core.proofs.filling.filled_rows.Goals as goal
+use Rattle.roll_core.proofs.filling.filled_rows.Goals.{then-is_left+in_ok-filled_row+in_ok-push, else-is_left}
 
 pub returns-in_err-filled_row : goal.returns-in_err-filled_row
 returns-in_err-filled_row c =
