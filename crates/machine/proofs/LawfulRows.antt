@@ -9,6 +9,7 @@ use Rattle.sql_base.specs.Weight.{weight}
 use Rattle.sql_base.specs.declared.codes.Code.TheVariants.{C54000}
 use Rattle.sql_base.specs.declared.shapes.Schema.{Schema}
 use Rattle.sql_base.specs.declared.values.Value.{Value}
+use Rattle.mig_lens.specs.Lens.{unfilled}
 use Rattle.mig_lens.specs.declared.columns.Lens.{Lens}
 use Rattle.mig_lens.specs.declared.columns.Side.{Side}
 use Rattle.mig_lens.specs.declared.columns.Side.TheVariants.{Old, New}
@@ -26,7 +27,7 @@ use Rattle.machine.specs.declared.states.Mode.TheVariants.{Both}
 use Rattle.machine.specs.declared.states.State.{State}
 use Rattle.machine.specs.declared.causes.Cause.{Cause}
 use Rattle.machine.specs.Accept.{clashes_on, max_weight, half_cause, is_heavy, side_cause, sound, weight_cause, wrong}
-use Rattle.machine.specs.State.{Found, Shared, lens_among, number_of, put_row, put_rows, rows_of, shape_of, shared, table_on, unfilled, with_rows}
+use Rattle.machine.specs.State.{Found, Shared, lens_among, number_of, put_row, put_rows, rows_of, shape_of, shared, table_on, with_rows}
 use Rattle.machine.specs.Statement.{keys_of, made_row, new_halves, new_row, key_of}
 use Rattle.machine.specs.Migrate.{begun_half, begun_row, begun_rows, completed, completed_row, filled_halves, filled_row, half_causes, has_heavy, invalid, invalid_in, numbers_of, shows_heavy, started}
 use Rattle.machine.specs.Standing.{NumbersAscend, may_miss}

@@ -5,6 +5,7 @@ use Rattle.std.specs.Option.{option_map_or, option_or}
 use Rattle.std.proofs.lemmas.Bool.Decides.{nat_tests}
 use Rattle.sql_base.specs.declared.shapes.Schema.{Schema}
 use Rattle.sql_base.specs.declared.shapes.Unique.{Unique}
+use Rattle.mig_lens.specs.Lens.{unfilled}
 use Rattle.mig_lens.specs.declared.columns.Lens.{Lens}
 use Rattle.mig_lens.specs.declared.columns.Side.{Side}
 use Rattle.mig_lens.specs.declared.columns.Side.TheVariants.{Old, New}
@@ -25,7 +26,7 @@ use Rattle.machine.specs.Accept.{clashes_on, present, uniques_cause}
 use Rattle.machine.specs.Lawful.{HasNoClash}
 use Rattle.machine.specs.Migrate.{begun_half, begun_row, begun_rows, completed, completed_row, half_causes, invalid, invalid_in, numbers_of, started}
 use Rattle.machine.specs.Standing.{Ascends, NumbersAscend, may_miss}
-use Rattle.machine.specs.State.{half, lens_among, put_rows, rows_of, shape_of, shared, table_on, unfilled, with_rows}
+use Rattle.machine.specs.State.{half, lens_among, put_rows, rows_of, shape_of, shared, table_on, with_rows}
 use Rattle.machine.specs.Statement.{keys_of}
 
 -- ---- tables without entries

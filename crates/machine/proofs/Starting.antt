@@ -24,7 +24,7 @@ use Rattle.mig_lens.specs.declared.plans.Fate.{Fate}
 use Rattle.mig_lens.specs.declared.plans.Plan.{Plan}
 use Rattle.mig_lens.specs.Laws.{Joins, adds_column}
 use Rattle.mig_lens.specs.Layout.{has_mark, is_make}
-use Rattle.mig_lens.specs.Lens.{IsWellFormed, fits, outcomes}
+use Rattle.mig_lens.specs.Lens.{IsWellFormed, fits, outcomes, unfilled, unfilled_value}
 use Rattle.mig_lens.specs.Plan.{Table, plan_of, table_numbered}
 use Rattle.mig_lens.proofs.MadeHalves.{all_true, and_then_ok, both}
 use Rattle.mig_lens.proofs.Planned.{has_lenses, keeps_tables, planned_lenses_join, planned_schema}
@@ -34,7 +34,7 @@ use Rattle.machine.specs.declared.events.Reply.{Reply}
 use Rattle.machine.specs.declared.events.Reply.TheVariants.{Start}
 use Rattle.machine.specs.declared.states.Kept.{Kept}
 use Rattle.machine.specs.declared.states.State.{State}
-use Rattle.machine.specs.State.{lens_among, number_of, row_count, shape_of, table_on, unfilled, unfilled_value}
+use Rattle.machine.specs.State.{lens_among, number_of, row_count, shape_of, table_on}
 use Rattle.machine.specs.Statement.{max_rows}
 use Rattle.machine.specs.Migrate.{active, begun, begun_half, begun_row, begun_rows, may_not_start, not_yet, numbers_of, planned, start, started, steps_left, taken, too_heavy, unplanned, unrun}
 use Rattle.machine.specs.Standing.{AllBelow, Ascends, HalfStands, IsState, NewStands, NumbersAscend, RowStands, RowsStand, VersionStands, may_miss}

@@ -11,8 +11,8 @@ use Rattle.machine.specs.declared.events.Reply.TheVariants.{Insert, Select, Set,
 use Rattle.machine.specs.declared.states.Kept.{Kept}
 use Rattle.machine.specs.declared.states.State.{State}
 use Rattle.mig_lens.specs.Layout.{has_mark}
-use Rattle.mig_lens.specs.Lens.{forward}
-use Rattle.machine.specs.State.{Found, beginning, shown, unfilled}
+use Rattle.mig_lens.specs.Lens.{forward, unfilled}
+use Rattle.machine.specs.State.{Found, beginning, shown}
 use Rattle.machine.specs.Lawful.{IsLawful}
 use Rattle.machine.specs.Standing.{IsState}
 use Rattle.machine.specs.Step.{IsPlainStep, LaneRun, LaneStep, Run, Step}

@@ -25,7 +25,7 @@ use Rattle.mig_lens.specs.declared.plans.Fate.{Fate}
 use Rattle.mig_lens.specs.declared.plans.Plan.{Plan}
 use Rattle.mig_lens.specs.Layout.{has_mark}
 use Rattle.mig_lens.specs.Laws.{adds_column}
-use Rattle.mig_lens.specs.Lens.{forward}
+use Rattle.mig_lens.specs.Lens.{forward, unfilled}
 use Rattle.mig_lens.specs.Plan.{Table, plan_of, table_numbered}
 use Rattle.machine.specs.declared.events.Asked.{Asked}
 use Rattle.machine.specs.declared.events.Asked.TheVariants.{Read, Refused as NotRead}
@@ -37,7 +37,7 @@ use Rattle.machine.specs.declared.states.Kept.{Kept}
 use Rattle.machine.specs.declared.states.Mode.{Mode}
 use Rattle.machine.specs.declared.states.Mode.TheVariants.{Calm, Both}
 use Rattle.machine.specs.declared.states.State.{State}
-use Rattle.machine.specs.State.{Shared, lens_among, missing_keys, name_of, number_of, put_rows, rows_of, shape_of, shared, table_on, unfilled, with_rows}
+use Rattle.machine.specs.State.{Shared, lens_among, missing_keys, name_of, number_of, put_rows, rows_of, shape_of, shared, table_on, with_rows}
 use Rattle.machine.specs.Accept.{clashes, clashes_on, guarded, half_cause, max_weight, sound, without}
 use Rattle.machine.specs.Statement.{keys_of, made_row}
 

@@ -9,7 +9,7 @@ use Rattle.sql_eval.specs.Row.{all_alike, values_of}
 use Rattle.mig_lens.specs.declared.columns.Side.{Side}
 use Rattle.machine.specs.declared.states.Kept.{Kept}
 use Rattle.machine.specs.declared.tables.FoundTable.{FoundTable}
-use Rattle.machine.specs.declared.tables.Pair.{Pair}
+use Rattle.machine.specs.declared.tables.SharedTable.{SharedTable}
 use Rattle.machine.specs.declared.tables.VersionSeen.{VersionSeen}
 use Rattle.machine.specs.State.{Found, Shared, Version, half}
 
@@ -19,7 +19,7 @@ version seen = record { side = seen.side; schema = seen.schema.now }
 abbrev pub found : FoundTable → Found
 found table = record { side = table.side; table = table.table.now }
 
-abbrev pub pair : Pair → Shared
+abbrev pub pair : SharedTable → Shared
 pair lent = record { old = lent.old.now; new = lent.new.now; lens = lent.lens.now }
 
 -- Whether a row isn't that of this key, and has these values in the columns of a unique constraint.

@@ -1,7 +1,7 @@
 -- What a state holds, how a statement finds its table in it, and what a row shows.
 --
 -- A client sees the tables through a version. A version has a name and a schema: its tables, each with its name, its number and its shape. A table keeps its number in every version, while its name and its shape may differ. A statement carries a path: names of versions, each with public_ in front. While a migration is active two versions stand, the old side and the new side, and a row has a half for each version that has its table; in a table that both have, the new half may be missing until the row is filled. That both are usable meanwhile is pgroll's (its documentation, How pgroll works). While no migration is active one version stands, and it is the old side.
-use Rattle.std.specs.Prelude.{ℕ, ℤ, List, [], ◌∷◌, ◌++◌, ◌==◌, false, Option, Some, None, codes, find, is_none, length, map, sum_by, unwrap_or, slice_index_or, if◌then◌else◌}
+use Rattle.std.specs.Prelude.{ℕ, ℤ, List, [], ◌∷◌, ◌++◌, ◌==◌, false, Option, Some, None, codes, find, is_none, length, map, sum_by, unwrap_or, if◌then◌else◌}
 use Rattle.std.specs.List.{filter}
 use Rattle.std.specs.Option.{option_map, option_map_or, option_and_then, option_or}
 use Rattle.std.specs.Str.{bytes_eq}
@@ -13,8 +13,10 @@ use Rattle.sql_base.specs.declared.values.Ty.{Ty}
 use Rattle.sql_base.specs.declared.values.Ty.TheVariants.{Bigint, Text}
 use Rattle.sql_base.specs.declared.values.Value.{Value}
 use Rattle.sql_base.specs.declared.values.Value.TheVariants.{Null}
+use Rattle.mig_lens.specs.Lens.{unfilled}
 use Rattle.mig_lens.specs.declared.columns.Cell.{Cell}
 use Rattle.mig_lens.specs.declared.columns.Cell.TheVariants.{Carry, Make, Still}
+use Rattle.sql_base.specs.declared.values.Value.TheVariants.{Null}
 use Rattle.mig_lens.specs.declared.columns.Lens.{Lens}
 use Rattle.mig_lens.specs.declared.columns.Side.{Side}
 use Rattle.mig_lens.specs.declared.columns.Side.TheVariants.{Old, New}
@@ -114,15 +116,6 @@ shared s number =
 abbrev pub half : Side → Halves → Option (List Value)
 half Old halves = halves.old
 half New halves = halves.new
-
--- What the new version shows of a column of a row that is still to be filled, by the column's cell: a carried value, a constant, or NULL where the value is still to be made.
-abbrev pub unfilled_value : List Value → Cell → Value
-unfilled_value old (Carry at) = slice_index_or old at Null
-unfilled_value old (Make expr) = Null
-unfilled_value old (Still value) = value
-
-abbrev pub unfilled : Lens → List Value → List Value
-unfilled lens old = map (unfilled_value old) lens.new_cols
 
 -- What the new version shows of a row whose new half is missing.
 abbrev pub shown_unfilled : Option Shared → Halves → List Value

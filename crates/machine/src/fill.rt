@@ -13,9 +13,9 @@ use crate::acceptance::{clashes, wrong};
 use crate::causes::{Cause, value_cause};
 use crate::events::Reply;
 use crate::refusals::{CommandOutcome, inactive, limit, steps_left};
-use crate::rows::{half_or_none, put_rows, with_rows};
+use crate::rows::{half_or_empty, put_rows, with_rows};
 use crate::states::{Halves, Kept, State};
-use crate::tables::{Pair, rows_of, shared};
+use crate::tables::{SharedTable, rows_of, shared};
 use mig_lens::{Refusal, Side, forward};
 use sql_base::{Copying, EvalFault, List, Name, NoMemory};
 use std::alloc::Global;
@@ -102,10 +102,10 @@ fn first_keys(keys: &[i64], n: u32) -> &[i64]
 
 // ---- their new halves
 
-fn made(alloc: Global, pair: Pair<'_>, row: &Kept) -> Result<Result<Kept, Cause>, NoMemory>
+fn made(alloc: Global, pair: SharedTable<'_>, row: &Kept) -> Result<Result<Kept, Cause>, NoMemory>
     ensures { IfOk result (λ made. made ≡ made_row row.now.key (spec.filled_halves (plain.pair pair.entry) (unwrap_or row.now.halves.old []))) }
 {
-    let old = half_or_none(alloc, &row.halves.old)?;
+    let old = half_or_empty(alloc, &row.halves.old)?;
     match forward(alloc, pair.lens, &pair.old.2, old.as_slice(), None) {
         Ok(new) => Ok(Ok(Kept {
             key: row.key,
@@ -123,7 +123,7 @@ fn made(alloc: Global, pair: Pair<'_>, row: &Kept) -> Result<Result<Kept, Cause>
 fn filled_row(
     alloc: Global,
     s: &State,
-    pair: Pair<'_>,
+    pair: SharedTable<'_>,
     row: &Kept,
 ) -> Result<Result<Kept, Cause>, NoMemory>
     ensures { IfOk result (λ filled. filled ≡ spec.filled_row s.now (plain.pair pair.entry) row.now) }
@@ -147,7 +147,7 @@ fn has_key_of(keys: &[i64], row: &Kept) -> bool
 fn filled_rows(
     alloc: Global,
     s: &State,
-    pair: Pair<'_>,
+    pair: SharedTable<'_>,
     keys: &[i64],
     rows: &[Kept],
 ) -> Result<Result<List<Kept>, Cause>, NoMemory>
@@ -204,7 +204,7 @@ fn batch_reply(alloc: Global, table: &Name, new: &[Kept]) -> Result<Reply, NoMem
 fn batch_written(
     alloc: Global,
     s: &State,
-    pair: Pair<'_>,
+    pair: SharedTable<'_>,
     new: &[Kept],
 ) -> Result<CommandOutcome, NoMemory>
     ensures { IfOk result (λ outcome. outcome ≡ spec.batch_written s.now (plain.pair pair.entry) new.now) }
@@ -223,7 +223,7 @@ fn batch_written(
 fn batch(
     alloc: Global,
     s: &State,
-    pair: Pair<'_>,
+    pair: SharedTable<'_>,
     keys: &[i64],
     rows: &[Kept],
 ) -> Result<CommandOutcome, NoMemory>

@@ -11,4 +11,4 @@ pub use crate::replies::{
 pub use crate::rows::put_rows;
 pub use crate::selecting::{picked, untyped_items};
 pub use crate::start::start;
-pub use crate::tables::{FoundTable, Pair, shared, table_of, table_on};
+pub use crate::tables::{FoundTable, SharedTable, shared, table_of, table_on};

@@ -5,41 +5,16 @@ ghost use Rattle.machine.specs.State as spec;
 ghost use Rattle.machine.specs.Plain as plain;
 
 use crate::states::{Kept, State};
-use crate::tables::{FoundTable, Pair, shared};
-use mig_lens::{Cell, Lens, Side};
+use crate::tables::{FoundTable, SharedTable, shared};
+use mig_lens::{Side, unfilled};
 use sql_base::{Copying, List, NoMemory, Value};
 use std::alloc::Global;
 use std::cmp::Ordering;
 
 // ---- what a row shows
 
-// What the new version shows of a column of a row that is still to be filled.
-fn unfilled_value(alloc: Global, old: &[Value], cell: &Cell) -> Result<Value, NoMemory>
-    ensures { IfOk result (λ value. value ≡ spec.unfilled_value old.now cell.now) }
-{
-    match cell {
-        Cell::Carry(at) => match old.get(*at as usize) {
-            Some(value) => value.copy(alloc),
-            None => Ok(Value::Null),
-        },
-        Cell::Make(_) => Ok(Value::Null),
-        Cell::Still(value) => value.copy(alloc),
-    }
-}
-
-/// What the new version shows of a row that is still to be filled.
-pub fn unfilled(alloc: Global, lens: &Lens, old: &[Value]) -> Result<List<Value>, NoMemory>
-    ensures { IfOk result (λ values. values ≡ spec.unfilled lens.now old.now) }
-{
-    let mut values = List::new(alloc);
-    for cell in lens.new_cols.as_slice() {
-        values.push(unfilled_value(alloc, old, cell)?)?;
-    }
-    Ok(values)
-}
-
 /// A copy of a half, or no value where there is none.
-pub fn half_or_none(alloc: Global, values: &Option<List<Value>>) -> Result<List<Value>, NoMemory>
+pub fn half_or_empty(alloc: Global, values: &Option<List<Value>>) -> Result<List<Value>, NoMemory>
     ensures { IfOk result (λ copy. copy ≡ unwrap_or values.now []) }
 {
     match values {
@@ -50,14 +25,14 @@ pub fn half_or_none(alloc: Global, values: &Option<List<Value>>) -> Result<List<
 
 fn shown_unfilled(
     alloc: Global,
-    pair: Option<Pair<'_>>,
+    pair: Option<SharedTable<'_>>,
     row: &Kept,
 ) -> Result<List<Value>, NoMemory>
     ensures { IfOk result (λ values. values ≡ spec.shown_unfilled (option_map plain.pair pair.entry) row.now.halves) }
 {
     match pair {
         Some(pair) => {
-            let old = half_or_none(alloc, &row.halves.old)?;
+            let old = half_or_empty(alloc, &row.halves.old)?;
             unfilled(alloc, pair.lens, old.as_slice())
         }
         None => Ok(List::new(alloc)),
@@ -74,7 +49,7 @@ pub fn shown(
     ensures { IfOk result (λ values. values ≡ spec.shown s.now (plain.found found.entry) row.now) }
 {
     match found.side {
-        Side::Old => half_or_none(alloc, &row.halves.old),
+        Side::Old => half_or_empty(alloc, &row.halves.old),
         Side::New => match &row.halves.new {
             Some(values) => values.copy(alloc),
             None => shown_unfilled(alloc, shared(s, found.table.1), row),

@@ -11,11 +11,10 @@ ghost use Rattle.machine.specs.Stops.{Answers};
 use crate::acceptance::MAX_WEIGHT;
 use crate::events::{Asked, Reply};
 use crate::refusals::{limit, steps_left};
-use crate::rows::unfilled;
 use crate::states::{Halves, Kept, Mode, State};
 use crate::stops::Stop;
 use crate::tables::lens_among;
-use mig_lens::{Cell, Fate, Lens, Migration, Op, Plan, PlanFault, Refusal, plan};
+use mig_lens::{Cell, Fate, Lens, Migration, Op, Plan, PlanFault, Refusal, plan, unfilled};
 use sql_base::{Copying, List, Name, NoMemory, Value, weight};
 use std::alloc::Global;
 

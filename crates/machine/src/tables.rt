@@ -29,7 +29,7 @@ pub struct FoundTable<'a> {
 
 /// A table that both versions have: what each has of it, and the lens between its shapes.
 #[derive(Clone, Copy)]
-pub struct Pair<'a> {
+pub struct SharedTable<'a> {
     pub old: &'a Table,
     pub new: &'a Table,
     pub lens: &'a Lens,
@@ -177,7 +177,7 @@ fn lens_between(s: &State, number: u32) -> Option<&Lens>
 }
 
 /// What both versions have of the table of a number, where they both have it.
-pub fn shared(s: &State, number: u32) -> Option<Pair<'_>>
+pub fn shared(s: &State, number: u32) -> Option<SharedTable<'_>>
     ensures { option_map plain.pair result ≡ spec.shared s.now number }
 {
     match (
@@ -185,7 +185,7 @@ pub fn shared(s: &State, number: u32) -> Option<Pair<'_>>
         table_on(s, Side::New, number),
         lens_between(s, number),
     ) {
-        (Some(old), Some(new), Some(lens)) => Some(Pair { old, new, lens }),
+        (Some(old), Some(new), Some(lens)) => Some(SharedTable { old, new, lens }),
         _ => None,
     }
 }

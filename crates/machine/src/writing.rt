@@ -16,7 +16,7 @@ use crate::replies::{refused_row, too_many_rows};
 use crate::rows::{put_rows, row_count, with_rows};
 use crate::states::{Halves, Kept, State};
 use crate::stops::Stop;
-use crate::tables::{FoundTable, Pair, rows_of, shared};
+use crate::tables::{FoundTable, SharedTable, rows_of, shared};
 use mig_lens::{Side, backward, forward};
 use sql_base::{Copying, EvalFault, List, NoMemory, Value};
 use std::alloc::Global;
@@ -28,7 +28,7 @@ pub const MAX_ROWS: u64 = 262_144;
 fn new_halves(
     alloc: Global,
     side: Side,
-    pair: Option<Pair<'_>>,
+    pair: Option<SharedTable<'_>>,
     values: List<Value>,
 ) -> Result<Halves, EvalFault>
     ensures { Gives EvalFault.NoMemory (spec.new_halves side (option_map plain.pair pair.entry) values) result }

@@ -1,7 +1,7 @@
 -- How the rows of a table are stored while both versions stand.
 --
--- That a new column's values stand beside the old ones until the migration is complete, and the beginning of its name,
--- are pgroll's; the mark is named after pgroll's `_pgroll_needs_backfill`. The rest is our own.
+-- That a new column's values stand beside the old ones until the migration is complete is pgroll's (its documentation,
+-- How pgroll works). The layout is our own; the shadow columns and the mark are named after pgroll's.
 use Rattle.std.specs.Prelude.{ℕ, Bool, true, false, List, [], ◌∷◌, ◌++◌, map, codes}
 use Rattle.std.specs.List.{list_any}
 use Rattle.sql_base.specs.declared.shapes.Column.{Column}

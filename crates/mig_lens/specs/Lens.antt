@@ -48,6 +48,18 @@ forward lens old half previous = half_made lens.new_cols old half previous
 abbrev pub backward : Lens → Shape → List Value → Option (List Value) → Result (List Value) EvalFault
 backward lens new half previous = half_made lens.old_cols new half previous
 
+-- ---- a row that is still to be filled
+
+-- What the new version shows of a column, by the column's cell, of a row that is still to be filled: a carried value, a constant, or NULL where the value is still to be made.
+abbrev pub unfilled_value : List Value → Cell → Value
+unfilled_value old (Carry at) = slice_index_or old at Null
+unfilled_value old (Make expr) = Null
+unfilled_value old (Still value) = value
+
+-- What it shows of the whole row, from the row's old half.
+abbrev pub unfilled : Lens → List Value → List Value
+unfilled lens old = map (unfilled_value old) lens.new_cols
+
 -- ---- lenses that fit two shapes
 
 -- a column of this type, where there is one

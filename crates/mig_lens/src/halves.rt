@@ -88,3 +88,27 @@ pub fn backward(
 {
     half_made(alloc, lens.old_cols.as_slice(), new, half, previous)
 }
+
+// What the new version shows of a column of a row that is still to be filled.
+fn unfilled_value(alloc: Global, old: &[Value], cell: &Cell) -> Result<Value, NoMemory>
+    ensures { IfOk result (λ value. value ≡ spec.unfilled_value old.now cell.now) }
+{
+    match cell {
+        Cell::Carry(at) => value_at(alloc, old, *at as usize),
+        Cell::Make(_) => Ok(Value::Null),
+        Cell::Still(value) => value.copy(alloc),
+    }
+}
+
+/// What the new version shows of a row that is still to be filled, from the row's old half.
+///
+/// An error is want of memory.
+pub fn unfilled(alloc: Global, lens: &Lens, old: &[Value]) -> Result<List<Value>, NoMemory>
+    ensures { IfOk result (λ values. values ≡ spec.unfilled lens.now old.now) }
+{
+    let mut values = List::new(alloc);
+    for cell in lens.new_cols.as_slice() {
+        values.push(unfilled_value(alloc, old, cell)?)?;
+    }
+    Ok(values)
+}

@@ -15,7 +15,7 @@ mod tables;
 
 pub use columns::{Cell, Lens, Side};
 pub use faults::{Kind, Member, Place, PlanFault, Refusal};
-pub use halves::{backward, forward};
+pub use halves::{backward, forward, unfilled};
 pub use layouts::layout;
 pub use migrations::{ColumnDef, Migration, Op, Ways};
 pub use planning::plan;

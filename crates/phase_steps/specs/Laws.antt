@@ -4,8 +4,9 @@ use Rattle.sql_base.specs.declared.values.Value.{Value}
 use Rattle.sql_base.specs.Fit.{row_fits}
 use Rattle.trigger_pair.specs.declared.pairs.Pair.{Pair}
 use Rattle.trigger_pair.specs.Laws.{IsPair}
+use Rattle.trigger_pair.specs.Rows.{IsFilledRow}
 use Rattle.trigger_pair.specs.Stored.{new_view, old_view}
-use Rattle.phase_steps.specs.Rows.{leaving_row, restored, trimmed, trimmed_view}
+use Rattle.phase_steps.specs.Rows.{IsTrimmedRow, leaving_row, restored, trimmed, trimmed_view}
 
 -- A row that is written between C1 and C2 shows the values that were written, and has a value for each place of the layout.
 abbrev pub LeavingRowsShow : Type 0
@@ -28,3 +29,11 @@ CompletedRowsShow =
 -- After B2 a row is what the old version's view showed of it.
 abbrev pub RolledBackRowsShow : Type 0
 RolledBackRowsShow = (pair : Pair) (row : List Value) → restored 5 pair.old pair.new pair.lens row ≡ old_view pair row
+
+-- A row that is written between C1 and C2 is a filled row.
+abbrev pub LeavingRowsAreFilled : Type 0
+LeavingRowsAreFilled = (pair : Pair) (values : List Value) → IsPair pair → row_fits pair.new values ≡ true → IsFilledRow pair (leaving_row pair.lens values)
+
+-- C2 leaves of a filled row the carried values and the shadow values.
+abbrev pub TrimmingLeavesTrimmed : Type 0
+TrimmingLeavesTrimmed = (pair : Pair) (row : List Value) → IsPair pair → IsFilledRow pair row → IsTrimmedRow pair (trimmed pair.lens row)

@@ -1,6 +1,6 @@
 -- What becomes of the stored rows of a table that both versions have, step by step from START until one version stands alone.
 --
--- A migration begins with START. From then on both versions stand, and a row is stored as the triggers leave it. It is completed in three steps: C1 drops the old version's views, C2 removes the places that only the old version showed, and C3 puts the places in the order of the new version's columns. It is rolled back in two: B1 drops the new version's views, and B2 removes the places that only the new version showed. Between two steps rows are written by the version that stands. That completing removes the old columns and renames the new ones, and that rolling back removes the new ones, is pgroll's (its documentation, How pgroll works); the steps and the rest are our own.
+-- A migration begins with START. From then on both versions stand, and a row is stored as the triggers leave it. It is completed in three steps: C1 drops the old version's views, C2 removes the places that only the old version showed, and C3 puts the places in the order of the new version's columns. It is rolled back in two: B1 drops the new version's views, and B2 removes the places that only the new version showed. Between two steps rows are written by the version that stands. That completing removes the old columns, and that rolling back removes the new ones, is pgroll's (its documentation, How pgroll works); the steps and the rest are our own.
 use Rattle.std.specs.Prelude.{ℕ, ◌+◌, Bool, ◌==◌, ◌||◌, false, true, List, [], ◌∷◌, ◌++◌, drop, filter, length, map, slice_index_or, take, if◌then◌else◌}
 use Rattle.sql_base.specs.declared.shapes.Shape.{Shape}
 use Rattle.sql_base.specs.declared.values.Value.{Value}
@@ -11,6 +11,7 @@ use Rattle.mig_lens.specs.declared.columns.Lens.{Lens}
 use Rattle.mig_lens.specs.Layout.{has_mark, layout}
 use Rattle.mig_lens.specs.Lens.{is_carry}
 use Rattle.trigger_pair.specs.declared.pairs.Pair.{Pair}
+use Rattle.trigger_pair.specs.Rows.{IsOf}
 use Rattle.trigger_pair.specs.Stored.{begun, mark_value, old_view, shadow_values}
 
 abbrev pub pair_of : Shape → Shape → Lens → Pair
@@ -40,6 +41,13 @@ shadows_in lens row = take (length (filter is_shadow lens.new_cols)) (drop (leng
 -- A stored row after C2: the carried values in old order, and then the shadow values.
 abbrev pub trimmed : Lens → List Value → List Value
 trimmed lens row = carried_values lens.old_cols row ++ shadows_in lens row
+
+-- Such a row holds the carried values of a value for each old column, and the shadow values of one for each new column.
+abbrev pub trimmed_row : Pair → List Value → List Value → List Value
+trimmed_row pair old new = carried_values pair.lens.old_cols old ++ shadow_values pair.lens.new_cols new
+
+abbrev pub IsTrimmedRow : Pair → List Value → Type 0
+IsTrimmedRow pair stored = IsOf pair (trimmed_row pair) stored
 
 -- The place of an old column among the carried ones.
 abbrev pub carried_before : List Cell → ℕ → ℕ

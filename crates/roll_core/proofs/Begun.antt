@@ -44,7 +44,7 @@ use Rattle.roll_core.specs.Store.{AreStored, HasPair, IsStored, IsStoredRow, IsS
 use Rattle.roll_core.proofs.Completed.{frame_of, on_tables, own_numbers}
 use Rattle.roll_core.proofs.Found.{all_shared}
 use Rattle.roll_core.proofs.Frames.{is_pair}
-use Rattle.roll_core.proofs.Showing.{begun_unfilled, old_fits}
+use Rattle.roll_core.proofs.Showing.{old_fits}
 
 -- ---- one row
 
@@ -57,7 +57,7 @@ row_begun law both row is fit =
     let f : List Value → Kept = λ old. record { key = row.key; halves = record { old = Some old; new = new_half pair stored } } in
     let g : Bool → Kept = λ b. record { key = row.key; halves = record { old = Some row.values; new = if b then None else Some (new_view pair stored) } } in
     let k : List Value → Kept = λ new. record { key = row.key; halves = record { old = Some row.values; new = if has_mark both.lens then None else Some new } } in
-    ap f holds.old_shown ∙ ap g holds.mark ∙ ap k (holds.new_shown ∙ begun_unfilled row.values both.lens.new_cols)
+    ap f holds.old_shown ∙ ap g holds.mark ∙ ap k holds.new_shown
 
 row_is_stored : BegunRowsHold → (both : Shared) (row : StoredRow) → IsPair (pair_over both) → row_fits (shape_of both.old) row.values ≡ true → IsStoredRow Paired (Some (pair_over both)) (begun_stored (Some (pair_over both)) row)
 row_is_stored law both row is fit =

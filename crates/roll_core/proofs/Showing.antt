@@ -6,6 +6,7 @@ use Rattle.sql_base.specs.Fit.{row_fits}
 use Rattle.sql_base.specs.Outcome.{and_then, every}
 use Rattle.sql_base.specs.declared.stmts.Items.{Items}
 use Rattle.sql_base.specs.declared.values.Value.{Value}
+use Rattle.mig_lens.specs.Lens.{unfilled, unfilled_value}
 use Rattle.mig_lens.specs.declared.columns.Cell.{Cell}
 use Rattle.mig_lens.specs.declared.columns.Cell.TheVariants.{Carry, Make, Still}
 use Rattle.mig_lens.specs.declared.columns.Side.{Side}
@@ -15,7 +16,7 @@ use Rattle.machine.specs.declared.events.Reply.TheVariants.{Select}
 use Rattle.machine.specs.declared.states.Kept.{Kept}
 use Rattle.machine.specs.declared.states.State.{State}
 use Rattle.machine.specs.Standing.{HalfStands, RowStands, RowsStand}
-use Rattle.machine.specs.State.{Found, Shared, number_of, rows_of, shape_of, shared, shown_by, table_on, unfilled, unfilled_value}
+use Rattle.machine.specs.State.{Found, Shared, number_of, rows_of, shape_of, shared, shown_by, table_on}
 use Rattle.machine.specs.Statement.{Outcome, long_reply, max_reply, no_value, or_reply, picked, picked_row, select_rows}
 use Rattle.machine.specs.declared.stops.Stop.{Stop}
 use Rattle.machine.specs.declared.stops.Stop.TheVariants.{Because, NoMemory}
@@ -23,7 +24,7 @@ use Rattle.machine.specs.Stops.{Answers as GivesRows}
 use Rattle.machine.proofs.Pairs.{pair_stands}
 use Rattle.trigger_pair.specs.declared.pairs.Pair.{Pair}
 use Rattle.trigger_pair.specs.Laws.{BegunRowsHold, IsPair}
-use Rattle.trigger_pair.specs.Stored.{begun, begun_value, is_marked, new_view, old_view}
+use Rattle.trigger_pair.specs.Stored.{begun, is_marked, new_view, old_view}
 use Rattle.roll_core.specs.declared.phases.Phase.{Phase}
 use Rattle.roll_core.specs.declared.phases.Phase.TheVariants.{Alone, Paired, Leaving, Trimmed}
 use Rattle.roll_core.specs.declared.store.StoredRow.{StoredRow}
@@ -36,20 +37,13 @@ use Rattle.roll_core.proofs.Tables.{rows_of-here}
 
 -- ---- one row
 
--- START leaves in the new view what the machine shows of a row that is still to be filled.
-pub begun_unfilled : (old : List Value) (cells : List Cell) → map (begun_value old) cells ≡ map (unfilled_value old) cells
-begun_unfilled old [] = refl
-begun_unfilled old (Carry at ∷ cells) = ap (λ rest. unfilled_value old (Carry at) ∷ rest) (begun_unfilled old cells)
-begun_unfilled old (Make expr ∷ cells) = ap (λ rest. unfilled_value old (Make expr) ∷ rest) (begun_unfilled old cells)
-begun_unfilled old (Still value ∷ cells) = ap (λ rest. unfilled_value old (Still value) ∷ rest) (begun_unfilled old cells)
-
--- So does a marked row.
+-- A marked row shows in the new view what the machine shows of a row that is still to be filled.
 marked_shows : BegunRowsHold → (pair : Pair) (values : List Value) → IsPair pair → row_fits pair.old (old_view pair values) ≡ true → values ≡ begun pair (old_view pair values)
     → unfilled pair.lens (old_view pair values) ≡ new_view pair values
 marked_shows law pair values is fit begun_is =
     let old = old_view pair values in
     let holds = law pair old is fit in
-    sym (begun_unfilled old pair.lens.new_cols) ∙ sym holds.new_shown ∙ ap (new_view pair) (sym begun_is)
+    sym holds.new_shown ∙ ap (new_view pair) (sym begun_is)
 
 -- The old half of a row that stands fits.
 pub old_fits : (s : State) (number : ℕ) (row : Kept) (both : Shared) (values : List Value) → table_on s Old number ≡ Some both.old → row.halves.old ≡ Some values → RowStands s number row → row_fits (shape_of both.old) values ≡ true

@@ -17,9 +17,7 @@ use crate::phases::phase_of;
 use crate::places::replace;
 use crate::store::{Rows, StoredRow, StoredTable};
 use crate::views::{kept, rows_meant};
-use machine::parts::{
-    Pair as Both, clashes, may_not_fill, put_rows, shared, table_on, value_cause,
-};
+use machine::parts::{SharedTable, clashes, may_not_fill, put_rows, shared, table_on, value_cause};
 use machine::{Cause, Kept, Reply, State, Stop};
 use mig_lens::{Refusal, Side};
 use sql_base::{Copying, List, Name, NoMemory};
@@ -129,7 +127,7 @@ fn batch(
     alloc: Global,
     frame: &State,
     tables: &mut [StoredTable],
-    both: Both<'_>,
+    both: SharedTable<'_>,
     at: usize,
     n: u32,
 ) -> Result<Reply, Stop<Reply>>

@@ -11,14 +11,14 @@ ghost use Rattle.roll_core.specs.Store as model;
 use crate::complete::frame_of;
 use crate::meaning::meaning;
 use crate::store::{Rows, StoredRow, StoredTable};
-use machine::parts::{Pair as Both, shared, start as machine_start};
+use machine::parts::{SharedTable, shared, start as machine_start};
 use machine::{Asked, Reply, State, Stop};
 use mig_lens::{Refusal, layout};
 use sql_base::{Copying, List, NoMemory, Value};
 use std::alloc::Global;
 use trigger_pair::{Pair, begun};
 
-fn pair_over(alloc: Global, both: Both<'_>) -> Result<Pair, NoMemory>
+fn pair_over(alloc: Global, both: SharedTable<'_>) -> Result<Pair, NoMemory>
     ensures { IfOk result (λ pair. pair ≡ model.pair_over (plain.pair both.entry)) }
 {
     Ok(Pair {

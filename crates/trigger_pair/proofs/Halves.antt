@@ -14,11 +14,11 @@ use Rattle.sql_base.specs.Fit.{fits_columns, has_type, is_integer, row_fits}
 use Rattle.sql_base.specs.Outcome.{and_then, every}
 use Rattle.mig_lens.specs.declared.columns.Cell.{Cell}
 use Rattle.mig_lens.specs.declared.columns.Cell.TheVariants.{Carry}
-use Rattle.mig_lens.specs.Lens.{backward, carries, cell_fits, cells_fit, forward, is_carried_from, is_of_type, made, outcomes, value_before}
+use Rattle.mig_lens.specs.Lens.{backward, carries, cell_fits, cells_fit, forward, is_carried_from, is_of_type, made, outcomes, unfilled, unfilled_value, value_before}
 use Rattle.mig_lens.proofs.MadeHalves.{and_then_ok, backward_carries, both, forward_carries}
 use Rattle.trigger_pair.specs.declared.pairs.Pair.{Pair}
 use Rattle.trigger_pair.specs.Laws.{BegunRowsHold, FilledRowsHold, Holds, IsPair, NewWritesHold, OldWritesHold}
-use Rattle.trigger_pair.specs.Stored.{begun_value, begun_view, new_half, old_view, stored_row}
+use Rattle.trigger_pair.specs.Stored.{new_half, old_view, stored_row}
 use Rattle.trigger_pair.proofs.Places.{Agree, holds}
 
 -- ---- lengths
@@ -101,14 +101,14 @@ backward_agrees pair old new previous p long e =
       same = λ i at c. backward_carries pair.lens pair.new new previous old at i e (sym (p.lens.both_ways i at) ∙ carry_carries pair.lens.new_cols i at c);
     }
 
-begun_same : (cells : List Cell) (old : List Value) (i at : ℕ) → slice_get cells i ≡ Some (Carry at) → slice_index_or old at Null ≡ slice_index_or (map (begun_value old) cells) i Null
+begun_same : (cells : List Cell) (old : List Value) (i at : ℕ) → slice_get cells i ≡ Some (Carry at) → slice_index_or old at Null ≡ slice_index_or (map (unfilled_value old) cells) i Null
 begun_same [] old i at e = cc
-begun_same (cell ∷ cells) old zero at e = let same : cell ≡ Carry at = cc in ap (begun_value old) (sym same)
+begun_same (cell ∷ cells) old zero at e = let same : cell ≡ Carry at = cc in ap (unfilled_value old) (sym same)
 begun_same (cell ∷ cells) old (suc i) at e = begun_same cells old i at e
 
-begun_agrees : (pair : Pair) (old : List Value) → IsPair pair → length old ≡ length pair.old.columns → Agree pair.lens.new_cols old (begun_view pair old)
+begun_agrees : (pair : Pair) (old : List Value) → IsPair pair → length old ≡ length pair.old.columns → Agree pair.lens.new_cols old (unfilled pair.lens old)
 begun_agrees pair old p long = record {
-  long = length-map pair.lens.new_cols (begun_value old);
+  long = length-map pair.lens.new_cols (unfilled_value old);
   within = pair_within pair old p long;
   same = begun_same pair.lens.new_cols old;
 }
@@ -149,4 +149,4 @@ new_writes_hold pair half stored before p fit e =
 pub begun_rows_hold : BegunRowsHold
 begun_rows_hold pair old p fit =
     let long = row_long pair.old old fit in
-    holds pair old (begun_view pair old) true pair.layout.mark p long (pair_long pair p) (begun_agrees pair old p long) (marked_where_marks_are pair.layout.mark)
+    holds pair old (unfilled pair.lens old) true pair.layout.mark p long (pair_long pair p) (begun_agrees pair old p long) (marked_where_marks_are pair.layout.mark)

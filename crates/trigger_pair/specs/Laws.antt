@@ -5,10 +5,12 @@ use Rattle.sql_base.specs.declared.values.Value.{Value}
 use Rattle.sql_base.specs.Fit.{row_fits}
 use Rattle.sql_eval.specs.Shape.{WellFormed}
 use Rattle.mig_lens.specs.declared.columns.Side.TheVariants.{Old, New}
+use Rattle.mig_lens.specs.Laws.{FitsBefore}
 use Rattle.mig_lens.specs.Layout.{layout}
-use Rattle.mig_lens.specs.Lens.{IsWellFormed, backward, fits, forward}
+use Rattle.mig_lens.specs.Lens.{IsWellFormed, backward, fits, forward, unfilled}
 use Rattle.trigger_pair.specs.declared.pairs.Pair.{Pair}
-use Rattle.trigger_pair.specs.Stored.{begun, begun_view, filled, fired, is_marked, new_half, new_view, old_view}
+use Rattle.trigger_pair.specs.Rows.{IsFilledRow, IsPairedRow, IsUnfilledRow}
+use Rattle.trigger_pair.specs.Stored.{begun, filled, fired, is_marked, new_half, new_view, old_view}
 
 -- A pair: two well-formed shapes, a lens that is well formed over them and fits them, and the layout that the three have.
 pub record IsPair (pair : Pair) : Type 0 where
@@ -46,4 +48,36 @@ FilledRowsHold =
 -- A row that START leaves holds its values as its old half, shows through the new view what a row shows that is still to be filled, and is marked exactly where its table has a mark.
 abbrev pub BegunRowsHold : Type 0
 BegunRowsHold =
-    (pair : Pair) (old : List Value) → IsPair pair → row_fits pair.old old ≡ true → Holds pair old (begun_view pair old) pair.layout.mark (begun pair old)
+    (pair : Pair) (old : List Value) → IsPair pair → row_fits pair.old old ≡ true → Holds pair old (unfilled pair.lens old) pair.layout.mark (begun pair old)
+
+-- ---- which rows there are
+
+-- A write through the old version leaves a filled row, if the new half before fitted, where there was one.
+abbrev pub OldWritesFill : Type 0
+OldWritesFill =
+    (pair : Pair) (half stored : List Value) (before : Option (List Value)) → IsPair pair → row_fits pair.old half ≡ true → FitsBefore pair.new (option_and_then (new_half pair) before) → fired pair Old half before ≡ Ok stored →
+    IsFilledRow pair stored
+
+-- One through the new version does so, if the old half before fitted, where there was one.
+abbrev pub NewWritesFill : Type 0
+NewWritesFill =
+    (pair : Pair) (half stored : List Value) (before : Option (List Value)) → IsPair pair → row_fits pair.new half ≡ true → FitsBefore pair.old (option_map (old_view pair) before) → fired pair New half before ≡ Ok stored →
+    IsFilledRow pair stored
+
+-- Filling leaves a filled row.
+abbrev pub FillingFills : Type 0
+FillingFills = (pair : Pair) (before stored : List Value) → IsPair pair → row_fits pair.old (old_view pair before) ≡ true → filled pair before ≡ Ok stored → IsFilledRow pair stored
+
+-- START leaves rows that are still to be filled where the table has a mark, and filled ones elsewhere.
+abbrev pub BeginningIsPaired : Type 0
+BeginningIsPaired = (pair : Pair) (old : List Value) → IsPair pair → row_fits pair.old old ≡ true → IsPairedRow pair (begun pair old)
+
+-- A filled row has a value for each place of the layout, and isn't marked.
+abbrev pub FilledRowsAreLong : Type 0
+FilledRowsAreLong = (pair : Pair) (stored : List Value) → IsPair pair → IsFilledRow pair stored → (length stored ≡ length pair.layout.columns) × (is_marked pair stored ≡ false)
+
+-- So has one that is still to be filled; it is marked, and is what START leaves of its old half.
+abbrev pub UnfilledRowsAreBegun : Type 0
+UnfilledRowsAreBegun =
+    (pair : Pair) (stored : List Value) → IsPair pair → IsUnfilledRow pair stored →
+    (length stored ≡ length pair.layout.columns) × (is_marked pair stored ≡ true) × (stored ≡ begun pair (old_view pair stored))

@@ -1,6 +1,6 @@
 -- What a stored row holds of a table that both versions have, while both stand.
 --
--- A row is stored once, place by place by its table's layout: the old columns, then a shadow place for each new column that isn't carried, and the mark last where a new column is made by an expression. Each version's view selects some of these places. The mark says that the row is still to be filled: what the new view selects of it isn't its new half then. That new values stand in columns of their own beside the old ones, that triggers write them, and that a column says which rows still need backfilling, is pgroll's (its documentation, How pgroll works); the rest is our own.
+-- A row is stored once, place by place by its table's layout: the old columns, then a shadow place for each new column that isn't carried, and the mark last where a new column is made by an expression. Each version's view selects some of these places. The mark says that the row is still to be filled: what the new view selects of it isn't its new half then. That new values stand in columns of their own beside the old ones, and that triggers keep the two in step, is pgroll's (its documentation, How pgroll works); the shadow places and the mark are named after pgroll's, and the rest is our own.
 use Rattle.std.specs.Prelude.{ℕ, ◌+◌, ◌-◌, List, [], ◌∷◌, ◌++◌, Bool, true, false, ◌&&◌, Option, Some, None, Result, Ok, length, map, take, slice_get, slice_index_or, if◌then◌else◌}
 use Rattle.std.specs.Option.{option_map, option_and_then}
 use Rattle.sql_base.specs.Outcome.{and_then}
@@ -11,7 +11,7 @@ use Rattle.mig_lens.specs.declared.columns.Cell.{Cell}
 use Rattle.mig_lens.specs.declared.columns.Cell.TheVariants.{Carry, Make, Still}
 use Rattle.mig_lens.specs.declared.columns.Side.{Side}
 use Rattle.mig_lens.specs.declared.columns.Side.TheVariants.{Old, New}
-use Rattle.mig_lens.specs.Lens.{backward, forward}
+use Rattle.mig_lens.specs.Lens.{backward, forward, unfilled}
 use Rattle.trigger_pair.specs.declared.pairs.Pair.{Pair}
 
 -- ---- what the views select
@@ -93,15 +93,6 @@ filled pair stored = from_old pair (old_view pair stored) None
 
 -- ---- what a migration begins with
 
--- What the new view shows of a row that is still to be filled: a carried value, a constant, or NULL where the value is still to be made.
-abbrev pub begun_value : List Value → Cell → Value
-begun_value old (Carry at) = slice_index_or old at Null
-begun_value old (Make expr) = Null
-begun_value old (Still value) = value
-
-abbrev pub begun_view : Pair → List Value → List Value
-begun_view pair old = map (begun_value old) pair.lens.new_cols
-
--- The row that START leaves of a row with these values: marked, where the table has a mark.
+-- The row that START leaves of a row with these values: what the new version shows of it is what it shows of a row that is still to be filled, and it is marked, where the table has a mark.
 abbrev pub begun : Pair → List Value → List Value
-begun pair old = stored_row pair old (begun_view pair old) true
+begun pair old = stored_row pair old (unfilled pair.lens old) true

@@ -1,10 +1,11 @@
 //! The stored row of two halves.
-ghost use Rattle.std.specs.Prelude.{◌≡◌, ◌++◌, true, map, IfOk};
+ghost use Rattle.std.specs.Prelude.{◌≡◌, ◌++◌, true, IfOk};
+ghost use Rattle.mig_lens.specs.Lens.{unfilled};
 ghost use Rattle.trigger_pair.specs.Stored as spec;
 
 use crate::pairs::Pair;
 use crate::views::{value_at, with_all};
-use mig_lens::{Cell, Lens};
+use mig_lens::{Cell, Lens, unfilled};
 use sql_base::{Copying, List, NoMemory, Value};
 use std::alloc::Global;
 
@@ -70,27 +71,6 @@ pub fn joined(
     with_mark(all, mark, marked)
 }
 
-/// What a row that is still to be filled shows of a new column.
-fn begun_value(alloc: Global, old: &[Value], cell: &Cell) -> Result<Value, NoMemory>
-    ensures { IfOk result (λ value. value ≡ spec.begun_value old.now cell.now) }
-{
-    match cell {
-        Cell::Carry(at) => value_at(alloc, old, *at as usize),
-        Cell::Make(_) => Ok(Value::Null),
-        Cell::Still(value) => value.copy(alloc),
-    }
-}
-
-fn begun_values(alloc: Global, cells: &[Cell], old: &[Value]) -> Result<List<Value>, NoMemory>
-    ensures { IfOk result (λ values. values ≡ map (spec.begun_value old.now) cells.now) }
-{
-    let mut values = List::new(alloc);
-    for cell in cells {
-        values.push(begun_value(alloc, old, cell)?)?;
-    }
-    Ok(values)
-}
-
 /// The row that START stores of a row with these values, by the lens alone, where the layout has a mark or hasn't one.
 ///
 /// An error is want of memory.
@@ -100,9 +80,9 @@ pub fn begun_row(
     mark: bool,
     old: &[Value],
 ) -> Result<List<Value>, NoMemory>
-    ensures { IfOk result (λ row. row ≡ old.now ++ spec.shadow_values lens.now.new_cols (map (spec.begun_value old.now) lens.now.new_cols) ++ spec.mark_value mark true) }
+    ensures { IfOk result (λ row. row ≡ old.now ++ spec.shadow_values lens.now.new_cols (unfilled lens.now old.now) ++ spec.mark_value mark true) }
 {
-    let new = begun_values(alloc, lens.new_cols.as_slice(), old)?;
+    let new = unfilled(alloc, lens, old)?;
     let own = with_all(alloc, List::new(alloc), old)?;
     joined(alloc, lens, mark, own, new.as_slice(), true)
 }
