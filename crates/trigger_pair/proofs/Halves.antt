@@ -29,15 +29,18 @@ cells_long others [] (cell ∷ cells) f = cc
 cells_long others (c ∷ cs) [] f = cc
 cells_long others (c ∷ cs) (cell ∷ cells) f = ap suc (cells_long others cs cells (both (cell_fits others c cell) (cells_fit others cs cells) f).1)
 
-columns_long : (columns : List Column) (row : List Value) → fits_columns columns row ≡ true → length row ≡ length columns
+pub columns_long : (columns : List Column) (row : List Value) → fits_columns columns row ≡ true → length row ≡ length columns
 columns_long [] [] f = refl
 columns_long [] (v ∷ vs) f = cc
 columns_long (c ∷ cs) [] f = cc
 columns_long (c ∷ cs) (v ∷ vs) f = ap suc (columns_long cs vs (both (has_type (Some c.ty) v) (fits_columns cs vs) f).1)
 
+pub columns_fit : (shape : Shape) (row : List Value) → row_fits shape row ≡ true → fits_columns shape.columns row ≡ true
+columns_fit shape row f = (both (fits_columns shape.columns row) (is_integer (slice_index_or row shape.key Null)) f).0
+
 -- A row that fits a shape has a value for each column.
 pub row_long : (shape : Shape) (row : List Value) → row_fits shape row ≡ true → length row ≡ length shape.columns
-row_long shape row f = columns_long shape.columns row (both (fits_columns shape.columns row) (is_integer (slice_index_or row shape.key Null)) f).0
+row_long shape row f = columns_long shape.columns row (columns_fit shape row f)
 
 -- A half that is made has a value for each cell.
 pub made_long : (other : Shape) (half : List Value) (previous : Option (List Value)) (at : ℕ) (cells : List Cell) (values : List Value) → every (outcomes other half previous at cells) ≡ Ok values → length values ≡ length cells
@@ -115,11 +118,11 @@ begun_agrees pair old p long = record {
 
 -- ---- the laws
 
-unmarked : (mark : Bool) → (mark && false) ≡ false
+pub unmarked : (mark : Bool) → (mark && false) ≡ false
 unmarked true = refl
 unmarked false = refl
 
-marked_where_marks_are : (mark : Bool) → (mark && true) ≡ mark
+pub marked_where_marks_are : (mark : Bool) → (mark && true) ≡ mark
 marked_where_marks_are true = refl
 marked_where_marks_are false = refl
 

@@ -1,0 +1,14 @@
+use Rattle.trigger_pair.proofs.PairedRows.{beginning_is_paired, filling_fills, new_writes_fill, old_writes_fill}
+use Rattle.trigger_pair.proofs.laws.stored_rows_are_paired.Goals as goal
+
+pub returns-clause-old : goal.returns-clause-old
+returns-clause-old c = old_writes_fill
+
+pub returns-clause-new : goal.returns-clause-new
+returns-clause-new c = new_writes_fill
+
+pub returns-clause-filling : goal.returns-clause-filling
+returns-clause-filling c = filling_fills
+
+pub returns-clause-begun : goal.returns-clause-begun
+returns-clause-begun c = beginning_is_paired
