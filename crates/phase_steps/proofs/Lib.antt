@@ -1,2 +1,3 @@
 pub mod CompletedRows
+pub mod StoredRows
 pub mod WrittenRows
