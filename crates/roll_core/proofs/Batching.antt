@@ -12,12 +12,12 @@ use Rattle.machine.specs.Migrate.{batch_reply, refused_batch}
 use Rattle.machine.specs.Standing.{NumbersAscend}
 use Rattle.machine.specs.State.{Shared, name_of, shared}
 use Rattle.machine.specs.Step.{as_outcome}
-use Rattle.trigger_pair.specs.Laws.{FilledRowsHold, OldWritesHold}
+use Rattle.trigger_pair.specs.Laws.{FillingFills, OldWritesHold}
 use Rattle.roll_core.specs.declared.phases.Phase.TheVariants.{Paired}
 use Rattle.roll_core.specs.declared.store.StoredRow.{StoredRow}
 use Rattle.roll_core.specs.declared.store.StoredTable.{StoredTable}
 use Rattle.roll_core.specs.Filling as fill
-use Rattle.roll_core.specs.Filling.{HasAll, IsFilling, batch_of, filled_clash, filled_stored, put_all, refused, rows_left}
+use Rattle.roll_core.specs.Filling.{HasAll, IsFilling, batch_of, filled_clash, filled_stored, put_all, refused, unfilled_rows}
 use Rattle.roll_core.specs.Store.{AreStored, IsStored, IsStoredRow, IsStoredTable, RowsAscend, meaning, phase_in, phase_of, table_place}
 use Rattle.roll_core.proofs.Beside.{rows_stored}
 use Rattle.roll_core.proofs.Filled.{FillsTable, batch_stored, filled_few, filled_outcome, filled_there, put_all_stored, taken, taken_filled, with_all}
@@ -64,17 +64,17 @@ taken_at law frame store both at stored f =
 
 -- the rows of a batch, of the table that was read
 read_rows : (frame : State) (store : List StoredTable) (both : Shared) (at n : ℕ) (d : StoredTable) (made : Result (List StoredRow) Cause) → (t : IsTaken frame store both at)
-    → every (map (filled_stored frame (slice_index_or store at d)) (take n (rows_left (slice_index_or store at d)))) ≡ made → every (map (filled_stored frame t.table) (taken t.table n)) ≡ made
-read_rows frame store both at n d made t e = subst (λ (table : StoredTable). every (map (filled_stored frame table) (take n (rows_left table))) ≡ made) (t.is d) e
+    → every (map (filled_stored frame (slice_index_or store at d)) (take n (unfilled_rows (slice_index_or store at d)))) ≡ made → every (map (filled_stored frame t.table) (taken t.table n)) ≡ made
+read_rows frame store both at n d made t e = subst (λ (table : StoredTable). every (map (filled_stored frame table) (take n (unfilled_rows table))) ≡ made) (t.is d) e
 
 batch_is : (frame : State) (store : List StoredTable) (both : Shared) (at n : ℕ) (d : StoredTable) (made : Result (List StoredRow) Cause) → IsStored frame store → (t : IsTaken frame store both at)
-    → every (map (filled_stored frame (slice_index_or store at d)) (take n (rows_left (slice_index_or store at d)))) ≡ made
+    → every (map (filled_stored frame (slice_index_or store at d)) (take n (unfilled_rows (slice_index_or store at d)))) ≡ made
     → as_outcome (batch_of (meaning frame store) both n) ≡ as_outcome (filled_outcome frame store t.table (name_of both.new) made)
 batch_is frame store both at n d made stored t e =
     ap as_outcome (batch_stored frame store t.table both n stored.stands t.fills ∙ ap (filled_outcome frame store t.table (name_of both.new)) (read_rows frame store both at n d made t e))
 
 pub batch_fault : (frame : State) (store : List StoredTable) (both : Shared) (at n : ℕ) (d : StoredTable) (cause : Cause) (reply : Reply) → IsStored frame store → IsTaken frame store both at
-    → every (map (filled_stored frame (slice_index_or store at d)) (take n (rows_left (slice_index_or store at d)))) ≡ Err cause → reply ≡ refused (name_of both.new) cause
+    → every (map (filled_stored frame (slice_index_or store at d)) (take n (unfilled_rows (slice_index_or store at d)))) ≡ Err cause → reply ≡ refused (name_of both.new) cause
     → as_outcome (batch_of (meaning frame store) both n) ≡ Err reply
 batch_fault frame store both at n d cause reply stored t e k = batch_is frame store both at n d (Err cause) stored t e ∙ ap Err (sym k)
 
@@ -89,7 +89,7 @@ clash_read : (frame : State) (store : List StoredTable) (both : Shared) (at : �
 clash_read frame store both at d new why t e = ap (λ (table : StoredTable). filled_clash frame table new) (sym (t.is d)) ∙ sym e
 
 pub batch_clash : (frame : State) (store : List StoredTable) (both : Shared) (at n : ℕ) (d b : StoredTable) (new : List StoredRow) (why : Option Cause) (cause : Cause) (reply : Reply) → IsStored frame store → IsTaken frame store both at
-    → every (map (filled_stored frame (slice_index_or store at d)) (take n (rows_left (slice_index_or store at d)))) ≡ Ok new → why ≡ filled_clash frame (slice_index_or store at b) new → why ≡ Some cause → reply ≡ refused (name_of both.new) cause
+    → every (map (filled_stored frame (slice_index_or store at d)) (take n (unfilled_rows (slice_index_or store at d)))) ≡ Ok new → why ≡ filled_clash frame (slice_index_or store at b) new → why ≡ Some cause → reply ≡ refused (name_of both.new) cause
     → as_outcome (batch_of (meaning frame store) both n) ≡ Err reply
 batch_clash frame store both at n d b new why cause reply stored t e w h k =
     let name = name_of both.new in
@@ -98,7 +98,7 @@ batch_clash frame store both at n d b new why cause reply stored t e w h k =
     ∙ ap Err (sym k)
 
 pub batch_done : (frame : State) (store : List StoredTable) (both : Shared) (at n : ℕ) (d b a : StoredTable) (new rows : List StoredRow) (why : Option Cause) (reply : Reply) → IsStored frame store → IsTaken frame store both at
-    → every (map (filled_stored frame (slice_index_or store at d)) (take n (rows_left (slice_index_or store at d)))) ≡ Ok new → why ≡ filled_clash frame (slice_index_or store at b) new → why ≡ None → reply ≡ batch_reply (name_of both.new) (fill.keys_of new)
+    → every (map (filled_stored frame (slice_index_or store at d)) (take n (unfilled_rows (slice_index_or store at d)))) ≡ Ok new → why ≡ filled_clash frame (slice_index_or store at b) new → why ≡ None → reply ≡ batch_reply (name_of both.new) (fill.keys_of new)
     → rows ≡ put_all new (slice_index_or store at a).rows
     → as_outcome (batch_of (meaning frame store) both n) ≡ Ok (reply, meaning frame (slice_set store at (record (slice_index_or store at a) { rows = rows })))
 batch_done frame store both at n d b a new rows why reply stored t e w h k r =
@@ -112,11 +112,11 @@ batch_done frame store both at n d b a new rows why reply stored t e w h k r =
 
 -- ---- what the filled rows are
 
-pub filled_fits : FilledRowsHold → (frame : State) (store : List StoredTable) (both : Shared) (at n : ℕ) (d : StoredTable) (new : List StoredRow) → IsTaken frame store both at → every (map (filled_stored frame (slice_index_or store at d)) (take n (rows_left (slice_index_or store at d)))) ≡ Ok new → length new ≤ n
+pub filled_fits : FillingFills → (frame : State) (store : List StoredTable) (both : Shared) (at n : ℕ) (d : StoredTable) (new : List StoredRow) → IsTaken frame store both at → every (map (filled_stored frame (slice_index_or store at d)) (take n (unfilled_rows (slice_index_or store at d)))) ≡ Ok new → length new ≤ n
 filled_fits law frame store both at n d new t e =
     filled_few t.table n new (taken_filled law frame store t.table both n new t.fills (read_rows frame store both at n d (Ok new) t e)).keys
 
-pub filled_has : FilledRowsHold → (frame : State) (store : List StoredTable) (both : Shared) (at n : ℕ) (d a : StoredTable) (new : List StoredRow) → IsTaken frame store both at → every (map (filled_stored frame (slice_index_or store at d)) (take n (rows_left (slice_index_or store at d)))) ≡ Ok new
+pub filled_has : FillingFills → (frame : State) (store : List StoredTable) (both : Shared) (at n : ℕ) (d a : StoredTable) (new : List StoredRow) → IsTaken frame store both at → every (map (filled_stored frame (slice_index_or store at d)) (take n (unfilled_rows (slice_index_or store at d)))) ≡ Ok new
     → HasAll (slice_index_or store at a).rows new
 filled_has law frame store both at n d a new t e =
     let keys = (taken_filled law frame store t.table both n new t.fills (read_rows frame store both at n d (Ok new) t e)).keys in
@@ -125,8 +125,8 @@ filled_has law frame store both at n d a new t e =
 pub taken_ascend : (frame : State) (store : List StoredTable) (both : Shared) (at : ℕ) (a : StoredTable) → IsTaken frame store both at → RowsAscend (slice_index_or store at a).rows
 taken_ascend frame store both at a t = subst (λ (x : StoredTable). RowsAscend x.rows) (sym (t.is a)) t.fills.ascend
 
-pub filled_are_stored : FilledRowsHold → (frame : State) (store : List StoredTable) (both : Shared) (at n : ℕ) (d a : StoredTable) (new rows : List StoredRow) → IsStored frame store → IsTaken frame store both at
-    → every (map (filled_stored frame (slice_index_or store at d)) (take n (rows_left (slice_index_or store at d)))) ≡ Ok new → rows ≡ put_all new (slice_index_or store at a).rows
+pub filled_are_stored : FillingFills → (frame : State) (store : List StoredTable) (both : Shared) (at n : ℕ) (d a : StoredTable) (new rows : List StoredRow) → IsStored frame store → IsTaken frame store both at
+    → every (map (filled_stored frame (slice_index_or store at d)) (take n (unfilled_rows (slice_index_or store at d)))) ≡ Ok new → rows ≡ put_all new (slice_index_or store at a).rows
     → AreStored frame (slice_set store at (record (slice_index_or store at a) { rows = rows }))
 filled_are_stored law frame store both at n d a new rows stored t e r =
     let filled = (taken_filled law frame store t.table both n new t.fills (read_rows frame store both at n d (Ok new) t e)).stored in

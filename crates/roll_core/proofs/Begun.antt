@@ -33,7 +33,7 @@ use Rattle.machine.proofs.Moving.{numbers_kept}
 use Rattle.machine.proofs.Pairs.{pair_stands}
 use Rattle.machine.proofs.Starting.{started_stands}
 use Rattle.trigger_pair.specs.declared.pairs.Pair.{Pair}
-use Rattle.trigger_pair.specs.Laws.{BegunRowsHold, IsPair}
+use Rattle.trigger_pair.specs.Laws.{BeginningIsPaired, BegunRowsHold, IsPair}
 use Rattle.trigger_pair.specs.Stored.{begun, new_half, new_view}
 use Rattle.roll_core.specs.declared.phases.Phase.{Phase}
 use Rattle.roll_core.specs.declared.phases.Phase.TheVariants.{Alone, Paired}
@@ -45,6 +45,11 @@ use Rattle.roll_core.proofs.Completed.{frame_of, on_tables, own_numbers}
 use Rattle.roll_core.proofs.Found.{all_shared}
 use Rattle.roll_core.proofs.Frames.{is_pair}
 use Rattle.roll_core.proofs.Showing.{old_fits}
+
+-- The laws of stored rows that START stands on.
+pub record BeginningHolds : Type 0 where
+  pub shown : BegunRowsHold
+  pub paired : BeginningIsPaired
 
 -- ---- one row
 
@@ -59,11 +64,8 @@ row_begun law both row is fit =
     let k : List Value → Kept = λ new. record { key = row.key; halves = record { old = Some row.values; new = if has_mark both.lens then None else Some new } } in
     ap f holds.old_shown ∙ ap g holds.mark ∙ ap k holds.new_shown
 
-row_is_stored : BegunRowsHold → (both : Shared) (row : StoredRow) → IsPair (pair_over both) → row_fits (shape_of both.old) row.values ≡ true → IsStoredRow Paired (Some (pair_over both)) (begun_stored (Some (pair_over both)) row)
-row_is_stored law both row is fit =
-    let pair = pair_over both in
-    let holds = law pair row.values is fit in
-    (holds.long, λ m. ap (begun pair) (sym holds.old_shown))
+row_is_stored : BeginningHolds → (both : Shared) (row : StoredRow) → IsPair (pair_over both) → row_fits (shape_of both.old) row.values ≡ true → IsStoredRow Paired (Some (pair_over both)) (begun_stored (Some (pair_over both)) row)
+row_is_stored law both row is fit = law.paired (pair_over both) row.values is fit
 
 -- ---- the rows of a table
 
@@ -76,24 +78,24 @@ record Begins (s t : State) (fates : List (ℕ × Fate)) (table : StoredTable) :
   on_old : table_on s Old table.number ≡ Some both.old
   stand : RowsStand s table.number (map (kept Alone table.pair) table.rows)
 
-rows_begun : BegunRowsHold → (s : State) (number : ℕ) (both : Shared) (pair : Option Pair) (rows : List StoredRow) → IsPair (pair_over both) → table_on s Old number ≡ Some both.old → RowsStand s number (map (kept Alone pair) rows)
+rows_begun : BeginningHolds → (s : State) (number : ℕ) (both : Shared) (pair : Option Pair) (rows : List StoredRow) → IsPair (pair_over both) → table_on s Old number ≡ Some both.old → RowsStand s number (map (kept Alone pair) rows)
     → (map (kept Paired (Some (pair_over both))) (map (begun_stored (Some (pair_over both))) rows) ≡ map (begun_row both.lens) (map (kept Alone pair) rows)) × AllByRecursion (IsStoredRow Paired (Some (pair_over both))) (map (begun_stored (Some (pair_over both))) rows)
 rows_begun law s number both pair [] is on stand = (refl, tt)
 rows_begun law s number both pair (row ∷ rows) is on stand =
     let fit = old_fits s number (kept Alone pair row) both row.values on refl stand.0 in
     let rest = rows_begun law s number both pair rows is on stand.1 in (
-      ap (λ (k : Kept). k ∷ map (kept Paired (Some (pair_over both))) (map (begun_stored (Some (pair_over both))) rows)) (row_begun law both row is fit) ∙ ap (λ (rs : List Kept). begun_row both.lens (kept Alone None row) ∷ rs) rest.0,
+      ap (λ (k : Kept). k ∷ map (kept Paired (Some (pair_over both))) (map (begun_stored (Some (pair_over both))) rows)) (row_begun law.shown both row is fit) ∙ ap (λ (rs : List Kept). begun_row both.lens (kept Alone None row) ∷ rs) rest.0,
       (row_is_stored law both row is fit, rest.1),
     )
 
-table_begun : BegunRowsHold → (s t : State) (fates : List (ℕ × Fate)) (table : StoredTable) → Begins s t fates table → table_meant Paired (begun_table t table) ≡ begun_rows fates (table_meant Alone table)
+table_begun : BeginningHolds → (s t : State) (fates : List (ℕ × Fate)) (table : StoredTable) → Begins s t fates table → table_meant Paired (begun_table t table) ≡ begun_rows fates (table_meant Alone table)
 table_begun law s t fates table h =
     let rows = (rows_begun law s table.number h.both table.pair table.rows h.is_pair h.on_old h.stand).0 in
     let f : Option Pair → ℕ × List Kept = λ pair. (table.number, map (kept Paired pair) (map (begun_stored pair) table.rows)) in
     let g : Option Lens → ℕ × List Kept = λ lens. option_map_or {U = ℕ × List Kept} (λ lens. (table.number, map (begun_row lens) (map (kept Alone table.pair) table.rows))) lens (table.number, map (kept Alone table.pair) table.rows) in
     ap f (ap (option_map pair_over) h.is) ∙ ap (λ (rs : List Kept). (table.number, rs)) rows ∙ ap g (sym h.lens)
 
-table_is_stored : BegunRowsHold → (s t u : State) (fates : List (ℕ × Fate)) → ((number : ℕ) → shared u number ≡ shared t number) → phase_of u ≡ Paired → (table : StoredTable) → Begins s t fates table → IsStoredTable u (begun_table u table)
+table_is_stored : BeginningHolds → (s t u : State) (fates : List (ℕ × Fate)) → ((number : ℕ) → shared u number ≡ shared t number) → phase_of u ≡ Paired → (table : StoredTable) → Begins s t fates table → IsStoredTable u (begun_table u table)
 table_is_stored law s t u fates same p table h =
     let rows = (rows_begun law s table.number h.both table.pair table.rows h.is_pair h.on_old h.stand).1 in
     let pair : option_map pair_over (shared u table.number) ≡ Some (pair_over h.both) = ap (option_map pair_over) (same table.number ∙ h.is) in
@@ -103,12 +105,12 @@ table_is_stored law s t u fates same p table h =
           (subst (λ (o : Option Pair). AllByRecursion (IsStoredRow Paired o) (map (begun_stored o) table.rows)) (sym pair) rows);
     }
 
-tables_begun : BegunRowsHold → (s t : State) (fates : List (ℕ × Fate)) (ts : List StoredTable) → AllByRecursion (Begins s t fates) ts → map (table_meant Paired) (map (begun_table t) ts) ≡ map (begun_rows fates) (map (table_meant Alone) ts)
+tables_begun : BeginningHolds → (s t : State) (fates : List (ℕ × Fate)) (ts : List StoredTable) → AllByRecursion (Begins s t fates) ts → map (table_meant Paired) (map (begun_table t) ts) ≡ map (begun_rows fates) (map (table_meant Alone) ts)
 tables_begun law s t fates [] h = refl
 tables_begun law s t fates (table ∷ ts) h =
     ap (λ (m : ℕ × List Kept). m ∷ map (table_meant Paired) (map (begun_table t) ts)) (table_begun law s t fates table h.0) ∙ ap (λ (ms : List (ℕ × List Kept)). begun_rows fates (table_meant Alone table) ∷ ms) (tables_begun law s t fates ts h.1)
 
-tables_are_stored : BegunRowsHold → (s t u : State) (fates : List (ℕ × Fate)) → ((number : ℕ) → shared u number ≡ shared t number) → phase_of u ≡ Paired → (ts : List StoredTable) → AllByRecursion (Begins s t fates) ts → AllByRecursion (IsStoredTable u) (map (begun_table u) ts)
+tables_are_stored : BeginningHolds → (s t u : State) (fates : List (ℕ × Fate)) → ((number : ℕ) → shared u number ≡ shared t number) → phase_of u ≡ Paired → (ts : List StoredTable) → AllByRecursion (Begins s t fates) ts → AllByRecursion (IsStoredTable u) (map (begun_table u) ts)
 tables_are_stored law s t u fates same p [] h = tt
 tables_are_stored law s t u fates same p (table ∷ ts) h = (table_is_stored law s t u fates same p table h.0, tables_are_stored law s t u fates same p ts h.1)
 
@@ -172,7 +174,7 @@ pub record IsStarted (store : List StoredTable) (t : State) : Type 0 where
   pub means : meaning (frame_of t) (map (begun_table (frame_of t)) store) ≡ t
   pub stored : AreStored (frame_of t) (map (begun_table (frame_of t)) store)
 
-started_by : BegunRowsHold → (frame : State) (store : List StoredTable) (name : List ℕ) (plan : Plan) → IsStored frame store → phase_of frame ≡ Alone → IsState (started (meaning frame store) name plan) → IsStarted store (started (meaning frame store) name plan)
+started_by : BeginningHolds → (frame : State) (store : List StoredTable) (name : List ℕ) (plan : Plan) → IsStored frame store → phase_of frame ≡ Alone → IsState (started (meaning frame store) name plan) → IsStarted store (started (meaning frame store) name plan)
 started_by law frame store name plan stored p stands =
     let s = meaning frame store in
     let t = started s name plan in
@@ -187,7 +189,7 @@ started_by law frame store name plan stored p stands =
     }
 
 -- The machine's START leaves what the rows mean that the engine's leaves.
-pub started_stored : BegunRowsHold → (frame : State) (store : List StoredTable) (asked : Asked) (reply : Reply) (t : State) → IsStored frame store → start (meaning frame store) asked ≡ Ok (reply, t) → IsStarted store t
+pub started_stored : BeginningHolds → (frame : State) (store : List StoredTable) (asked : Asked) (reply : Reply) (t : State) → IsStored frame store → start (meaning frame store) asked ≡ Ok (reply, t) → IsStarted store t
 started_stored law frame store (NotRead refusal) reply t stored h = cc
 started_stored law frame store (Read m) reply t stored h =
     let s = meaning frame store in

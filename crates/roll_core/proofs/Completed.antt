@@ -27,15 +27,16 @@ use Rattle.machine.proofs.Accepting.{either_none, without_ok}
 use Rattle.machine.proofs.Moving.{filter_all}
 use Rattle.machine.proofs.Pairs.{pair_stands}
 use Rattle.trigger_pair.specs.declared.pairs.Pair.{Pair}
-use Rattle.trigger_pair.specs.Laws.{IsPair}
+use Rattle.trigger_pair.specs.Laws.{FilledRowsAreLong, IsPair, UnfilledRowsAreBegun}
+use Rattle.trigger_pair.specs.Rows.{IsFilledRow, IsPairedRow}
 use Rattle.trigger_pair.specs.Stored.{is_marked, new_view}
-use Rattle.phase_steps.specs.Laws.{TrimmingKeepsView}
+use Rattle.phase_steps.specs.Laws.{TrimmingKeepsView, TrimmingLeavesTrimmed}
 use Rattle.roll_core.specs.declared.phases.Phase.{Phase}
 use Rattle.roll_core.specs.declared.phases.Phase.TheVariants.{Alone, Paired, Leaving, Trimmed}
 use Rattle.roll_core.specs.declared.store.StoredRow.{StoredRow}
 use Rattle.roll_core.specs.declared.store.StoredTable.{StoredTable}
 use Rattle.roll_core.specs.Completing.{ordered_stored, ordered_table, trimmed_stored, trimmed_table}
-use Rattle.roll_core.specs.Store.{AreStored, HasPair, IsLeft, IsStored, IsStoredRow, IsStoredTable, kept, meaning, pair_over, phase_in, phase_of, rows_meant, table_meant}
+use Rattle.roll_core.specs.Store.{AreStored, HasPair, HasFormerPair, IsStored, IsStoredRow, IsStoredTable, kept, meaning, pair_over, phase_in, phase_of, rows_meant, table_meant}
 use Rattle.roll_core.proofs.Found.{all_shared, not_calm}
 use Rattle.roll_core.proofs.Frames.{is_pair}
 use Rattle.roll_core.proofs.Left.{each_mapped, rows_each}
@@ -96,11 +97,16 @@ pub record Stays (s : State) (schema : Schema) (table : StoredTable) : Type 0 wh
   pub filled : map (λ row. row.key) (filter (λ row. is_none row.halves.new) (rows_of s table.number)) ≡ []
   pub rows : rows_of s table.number ≡ map (kept Paired table.pair) table.rows
 
+-- none of its rows is marked
+none_marked : (s : State) (schema : Schema) (table : StoredTable) → (h : Stays s schema table) → AllByRecursion (λ row. is_marked (pair_over h.both) row.values ≡ false) table.rows
+none_marked s schema table h =
+    let none = subst (λ (rs : List Kept). map (λ row. row.key) (filter (λ row. is_none row.halves.new) rs) ≡ []) (h.rows ∙ ap (λ (o : Option Pair). map (kept Paired o) table.rows) h.has) h.filled in
+    unmarked (pair_over h.both) table.rows none
+
 table_stays : (s : State) (schema : Schema) (table : StoredTable) → Stays s schema table → (table.number, map completed_row (map (kept Paired table.pair) table.rows)) ≡ table_meant Leaving table
 table_stays s schema table h =
     let pair = pair_over h.both in
-    let none = subst (λ (rs : List Kept). map (λ row. row.key) (filter (λ row. is_none row.halves.new) rs) ≡ []) (h.rows ∙ ap (λ (o : Option Pair). map (kept Paired o) table.rows) h.has) h.filled in
-    let stay = rows_stay pair table.rows (unmarked pair table.rows none) in
+    let stay = rows_stay pair table.rows (none_marked s schema table h) in
     let rows = subst (λ (o : Option Pair). map completed_row (map (kept Paired o) table.rows) ≡ map (kept Leaving o) table.rows) (sym h.has) stay in
     ap (λ (rs : List Kept). (table.number, rs)) rows
 
@@ -197,22 +203,32 @@ completed_stored frame store name schema fates stored m stay =
     ∙ ap (λ (ph : Phase). map (λ (table : ℕ × List Kept). (table.0, map completed_row table.1)) (map (table_meant ph) store)) (sym p)
     ∙ ap (map (λ (table : ℕ × List Kept). (table.0, map completed_row table.1))) (sym all)
 
-left_each : (frame : State) (s : State) (schema : Schema) (t : State) → t.schema ≡ schema → t.mode ≡ Calm → t.left ≡ 2 → phase_of frame ≡ Paired → (ts : List StoredTable) → AllByRecursion (Stays s schema) ts → AllByRecursion (IsStoredTable frame) ts → AllByRecursion (IsStoredTable t) ts
-left_each frame s schema t e m l p [] stay stored = tt
-left_each frame s schema t e m l p (table ∷ ts) stay stored = (here, left_each frame s schema t e m l p ts stay.1 stored.1)
+left_each : UnfilledRowsAreBegun → (frame : State) (s : State) (schema : Schema) (t : State) → t.schema ≡ schema → t.mode ≡ Calm → t.left ≡ 2 → phase_of frame ≡ Paired → (ts : List StoredTable) → AllByRecursion (Stays s schema) ts → AllByRecursion (IsStoredTable frame) ts → AllByRecursion (IsStoredTable t) ts
+left_each law frame s schema t e m l p [] stay stored = tt
+left_each law frame s schema t e m l p (table ∷ ts) stay stored = (here, left_each law frame s schema t e m l p ts stay.1 stored.1)
   where
     phase : Leaving ≡ phase_of t
     phase = sym (ap (λ mode. phase_in mode t.left) m ∙ ap (λ left. phase_in Calm left) l)
 
-    long : (rows : List StoredRow) (pair : Option Pair) → pair ≡ Some (pair_over stay.0.both) → AllByRecursion (IsStoredRow Paired pair) rows → AllByRecursion (IsStoredRow Leaving pair) rows
-    long rows None has h = cc
-    long [] (Some pair) has h = tt
-    long (row ∷ rows) (Some pair) has h = (h.0.0, long rows (Some pair) has h.1)
+    pair : Pair
+    pair = pair_over stay.0.both
+
+    none : AllByRecursion (λ row. is_marked pair row.values ≡ false) table.rows
+    none = none_marked s schema table stay.0
+
+    filled : (values : List Value) → is_marked pair values ≡ false → IsPairedRow pair values → IsFilledRow pair values
+    filled values m (inl row) = row
+    filled values m (inr row) = let yes = (law pair values stay.0.is_pair row).1 in cc
+
+    all_filled : (rows : List StoredRow) → AllByRecursion (λ row. is_marked pair row.values ≡ false) rows → AllByRecursion (IsStoredRow Paired (Some pair)) rows → AllByRecursion (IsStoredRow Leaving (Some pair)) rows
+    all_filled [] m h = tt
+    all_filled (row ∷ rows) m h = (filled row.values m.0 h.0, all_filled rows m.1 h.1)
 
     here : IsStoredTable t table
     here =
-        let rows = long table.rows table.pair stay.0.has (subst (λ ph. AllByRecursion (IsStoredRow ph table.pair) table.rows) p stored.0.rows) in
-        let left : IsLeft t table = record {
+        let was = subst (λ (o : Option Pair). AllByRecursion (IsStoredRow Paired o) table.rows) stay.0.has (subst (λ ph. AllByRecursion (IsStoredRow ph table.pair) table.rows) p stored.0.rows) in
+        let rows = subst (λ (o : Option Pair). AllByRecursion (IsStoredRow Leaving o) table.rows) (sym stay.0.has) (all_filled table.rows none was) in
+        let left : HasFormerPair t table = record {
           pair = pair_over stay.0.both;
           has = stay.0.has;
           is_pair = stay.0.is_pair;
@@ -232,9 +248,9 @@ pub record IsFinished (frame : State) (store : List StoredTable) (t : State) : T
   pub means : meaning (frame_of t) store ≡ t
   pub stored : AreStored (frame_of t) store
 
-finished_by : (frame : State) (store : List StoredTable) (mode : Mode) → IsStored frame store → frame.mode ≡ mode → (reply : Reply) (t : State) → finish (meaning frame store) mode ≡ Ok (reply, t) → IsFinished frame store t
-finished_by frame store Calm stored m reply t h = cc
-finished_by frame store (Both name schema fates) stored m reply t h =
+finished_by : UnfilledRowsAreBegun → (frame : State) (store : List StoredTable) (mode : Mode) → IsStored frame store → frame.mode ≡ mode → (reply : Reply) (t : State) → finish (meaning frame store) mode ≡ Ok (reply, t) → IsFinished frame store t
+finished_by law frame store Calm stored m reply t h = cc
+finished_by law frame store (Both name schema fates) stored m reply t h =
     let s = meaning frame store in
     let done = without_ok (may_not_complete s) (reply_of.Complete 1, completed s name schema) (reply, t) h in
     let none = (either_none (not_filled s (numbers_of s)) (option_map not_valid (invalid s (numbers_of s))) done.0).0 in
@@ -244,15 +260,15 @@ finished_by frame store (Both name schema fates) stored m reply t h =
     let c = frame_of (completed s name schema) in
     let tables = completed_stored frame store name schema fates stored m stay in
     let means : meaning c store ≡ completed s name schema = ap (λ (ts : List (ℕ × List Kept)). record c { tables = ts }) tables in
-    let left = left_each frame s schema c refl refl refl p store stay stored.tables in
+    let left = left_each law frame s schema c refl refl refl p store stay stored.tables in
     subst (IsFinished frame store) is (record { means = means; stored = left })
 
 -- COMPLETE's first step of the machine leaves what these rows mean in its frame.
-pub finished : (frame : State) (store : List StoredTable) (reply : Reply) (t : State) → IsStored frame store → frame.kind ≡ kind.Nothing → complete (meaning frame store) ≡ Ok (reply, t) → IsFinished frame store t
-finished frame store reply t stored k h =
+pub finished : UnfilledRowsAreBegun → (frame : State) (store : List StoredTable) (reply : Reply) (t : State) → IsStored frame store → frame.kind ≡ kind.Nothing → complete (meaning frame store) ≡ Ok (reply, t) → IsFinished frame store t
+finished law frame store reply t stored k h =
     let s = meaning frame store in
     let start : finish s s.mode ≡ Ok (reply, t) = subst (λ (by : Kind). by_kind s by ≡ Ok (reply, t)) k h in
-    finished_by frame store frame.mode stored refl reply t start
+    finished_by law frame store frame.mode stored refl reply t start
   where
     by_kind : State → Kind → CommandOutcome
     by_kind s kind.Nothing = finish s s.mode
@@ -260,6 +276,12 @@ finished frame store reply t stored k h =
     by_kind s kind.Rollback = Err (Unfinished kind.Rollback)
 
 -- ---- C2 and C3
+
+-- The laws of stored rows that the second step stands on.
+pub record TrimmingHolds : Type 0 where
+  pub shown : TrimmingKeepsView
+  pub trimmed : TrimmingLeavesTrimmed
+  pub long : FilledRowsAreLong
 
 -- while steps of completing are left no migration is active
 pub tidy_calm : (s : State) (mode : Mode) → s.mode ≡ mode → ModeStands s mode → s.kind ≡ kind.Complete → s.mode ≡ Calm
@@ -272,39 +294,41 @@ phase_calm s left m l = ap (λ mode. phase_in mode s.left) m ∙ ap (phase_in Ca
 trimmed_row_is : TrimmingKeepsView → (pair : Pair) (row : StoredRow) → IsPair pair → length row.values ≡ length pair.layout.columns → kept Trimmed (Some pair) (trimmed_stored (Some pair) row) ≡ kept Leaving (Some pair) row
 trimmed_row_is law pair row is long = ap (λ (v : List Value). record { key = row.key; halves = record { old = Some v; new = None } }) (law pair row.values is long)
 
-trimmed_rows_are : TrimmingKeepsView → (pair : Pair) (rows : List StoredRow) → IsPair pair → AllByRecursion (IsStoredRow Leaving (Some pair)) rows → map (kept Trimmed (Some pair)) (map (trimmed_stored (Some pair)) rows) ≡ map (kept Leaving (Some pair)) rows
+trimmed_rows_are : TrimmingHolds → (pair : Pair) (rows : List StoredRow) → IsPair pair → AllByRecursion (IsStoredRow Leaving (Some pair)) rows → map (kept Trimmed (Some pair)) (map (trimmed_stored (Some pair)) rows) ≡ map (kept Leaving (Some pair)) rows
 trimmed_rows_are law pair [] is h = refl
 trimmed_rows_are law pair (row ∷ rows) is h =
-    ap (λ (k : Kept). k ∷ map (kept Trimmed (Some pair)) (map (trimmed_stored (Some pair)) rows)) (trimmed_row_is law pair row is h.0) ∙ ap (λ (rs : List Kept). kept Leaving (Some pair) row ∷ rs) (trimmed_rows_are law pair rows is h.1)
+    ap (λ (k : Kept). k ∷ map (kept Trimmed (Some pair)) (map (trimmed_stored (Some pair)) rows)) (trimmed_row_is law.shown pair row is (law.long pair row.values is h.0).0) ∙ ap (λ (rs : List Kept). kept Leaving (Some pair) row ∷ rs) (trimmed_rows_are law pair rows is h.1)
 
-trimmed_table_is : TrimmingKeepsView → (frame : State) (table : StoredTable) → IsLeft frame table → AllByRecursion (IsStoredRow Leaving table.pair) table.rows → table_meant Trimmed (trimmed_table table) ≡ table_meant Leaving table
+trimmed_table_is : TrimmingHolds → (frame : State) (table : StoredTable) → HasFormerPair frame table → AllByRecursion (IsStoredRow Leaving table.pair) table.rows → table_meant Trimmed (trimmed_table table) ≡ table_meant Leaving table
 trimmed_table_is law frame table left rows =
     let start = trimmed_rows_are law left.pair table.rows left.is_pair (subst (λ o. AllByRecursion (IsStoredRow Leaving o) table.rows) left.has rows) in
     let is = subst (λ (o : Option Pair). map (kept Trimmed o) (map (trimmed_stored o) table.rows) ≡ map (kept Leaving o) table.rows) (sym left.has) start in
     ap (λ (rs : List Kept). (table.number, rs)) is
 
-trimmed_tables_are : TrimmingKeepsView → (frame : State) → phase_of frame ≡ Leaving → (ts : List StoredTable) → AllByRecursion (IsStoredTable frame) ts → map (table_meant Trimmed) (map trimmed_table ts) ≡ map (table_meant Leaving) ts
+trimmed_tables_are : TrimmingHolds → (frame : State) → phase_of frame ≡ Leaving → (ts : List StoredTable) → AllByRecursion (IsStoredTable frame) ts → map (table_meant Trimmed) (map trimmed_table ts) ≡ map (table_meant Leaving) ts
 trimmed_tables_are law frame p [] h = refl
 trimmed_tables_are law frame p (table ∷ ts) h =
     let left = subst (λ ph. HasPair ph frame table) p h.0.pair in
     let rows = subst (λ ph. AllByRecursion (IsStoredRow ph table.pair) table.rows) p h.0.rows in
     ap (λ (t : ℕ × List Kept). t ∷ map (table_meant Trimmed) (map trimmed_table ts)) (trimmed_table_is law frame table left rows) ∙ ap (λ (rs : List (ℕ × List Kept)). table_meant Leaving table ∷ rs) (trimmed_tables_are law frame p ts h.1)
 
-any_rows : (pair : Option Pair) (rows : List StoredRow) → AllByRecursion (IsStoredRow Trimmed pair) rows
-any_rows pair [] = tt
-any_rows pair (row ∷ rows) = (tt, any_rows pair rows)
+rows_trimmed : TrimmingHolds → (pair : Pair) (rows : List StoredRow) → IsPair pair → AllByRecursion (IsStoredRow Leaving (Some pair)) rows → AllByRecursion (IsStoredRow Trimmed (Some pair)) (map (trimmed_stored (Some pair)) rows)
+rows_trimmed law pair [] is h = tt
+rows_trimmed law pair (row ∷ rows) is h = (law.trimmed pair row.values is h.0, rows_trimmed law pair rows is h.1)
 
-trimmed_are_stored : (frame t : State) → phase_of frame ≡ Leaving → phase_of t ≡ Trimmed → t.schema ≡ frame.schema → (ts : List StoredTable) → AllByRecursion (IsStoredTable frame) ts → AllByRecursion (IsStoredTable t) (map trimmed_table ts)
-trimmed_are_stored frame t p q e [] h = tt
-trimmed_are_stored frame t p q e (table ∷ ts) h = (here, trimmed_are_stored frame t p q e ts h.1)
+trimmed_are_stored : TrimmingHolds → (frame t : State) → phase_of frame ≡ Leaving → phase_of t ≡ Trimmed → t.schema ≡ frame.schema → (ts : List StoredTable) → AllByRecursion (IsStoredTable frame) ts → AllByRecursion (IsStoredTable t) (map trimmed_table ts)
+trimmed_are_stored law frame t p q e [] h = tt
+trimmed_are_stored law frame t p q e (table ∷ ts) h = (here, trimmed_are_stored law frame t p q e ts h.1)
   where
     here : IsStoredTable t (trimmed_table table)
     here =
         let was = subst (λ ph. HasPair ph frame table) p h.0.pair in
-        let left : IsLeft t (trimmed_table table) = record { pair = was.pair; has = was.has; is_pair = was.is_pair; stands = ap (λ schema. shape_numbered schema table.number) e ∙ was.stands } in
+        let filled = subst (λ (o : Option Pair). AllByRecursion (IsStoredRow Leaving o) table.rows) was.has (subst (λ ph. AllByRecursion (IsStoredRow ph table.pair) table.rows) p h.0.rows) in
+        let trimmed_rows = subst (λ (o : Option Pair). AllByRecursion (IsStoredRow Trimmed o) (map (trimmed_stored o) table.rows)) (sym was.has) (rows_trimmed law was.pair table.rows was.is_pair filled) in
+        let left : HasFormerPair t (trimmed_table table) = record { pair = was.pair; has = was.has; is_pair = was.is_pair; stands = ap (λ schema. shape_numbered schema table.number) e ∙ was.stands } in
         record {
           pair = subst (λ ph. HasPair ph t (trimmed_table table)) (sym q) left;
-          rows = subst (λ ph. AllByRecursion (IsStoredRow ph table.pair) (map (trimmed_stored table.pair) table.rows)) (sym q) (any_rows table.pair (map (trimmed_stored table.pair) table.rows));
+          rows = subst (λ ph. AllByRecursion (IsStoredRow ph table.pair) (map (trimmed_stored table.pair) table.rows)) (sym q) trimmed_rows;
         }
 
 ordered_row_is : (pair : Option Pair) (row : StoredRow) → kept Alone None (ordered_stored pair row) ≡ kept Trimmed pair row
@@ -346,7 +370,7 @@ tidied_by s two = Ok (if two then (reply_of.Complete 2, record s { left = 1 }) e
 tidied_is : (s : State) → s.kind ≡ kind.Complete → complete s ≡ Ok (tidied s)
 tidied_is s k = rw k refl
 
-pub second_step : TrimmingKeepsView → (frame : State) (store : List StoredTable) → IsStored frame store → frame.kind ≡ kind.Complete → frame.left ≡ 2 → IsTidied frame store (reply_of.Complete 2) (record frame { left = 1 }) (map trimmed_table store)
+pub second_step : TrimmingHolds → (frame : State) (store : List StoredTable) → IsStored frame store → frame.kind ≡ kind.Complete → frame.left ≡ 2 → IsTidied frame store (reply_of.Complete 2) (record frame { left = 1 }) (map trimmed_table store)
 second_step law frame store stored k l =
     let s = meaning frame store in
     let t = record frame { left = 1 } in
@@ -357,7 +381,7 @@ second_step law frame store stored k l =
     ap (λ (ph : Phase). map (table_meant ph) store) p ∙ sym (trimmed_tables_are law frame p store stored.tables) ∙ ap (λ (ph : Phase). map (table_meant ph) (map trimmed_table store)) (sym q) in
     record {
       is = tidied_is s k ∙ ap (tidied_by s) (ap (λ n. n == 2) l) ∙ ap (λ (ts : List (ℕ × List Kept)). Ok (reply_of.Complete 2, record t { tables = ts })) tables;
-      stored = trimmed_are_stored frame t p q refl store stored.tables;
+      stored = trimmed_are_stored law frame t p q refl store stored.tables;
     }
 
 left_one : (left : ℕ) → StepsStand kind.Complete left → (left == 2) ≡ false → left ≡ 1

@@ -1,5 +1,5 @@
 -- A batch of stored rows is the batch of the machine.
-use Rattle.std.proofs.Common.{arith, ◌≡◌, ◌≤◌, ℕ, zero, suc, ℤ, List, [], ◌∷◌, length, map, take, filter, refl, ap, sym, subst, ◌∙◌, Bool, true, false, ◌||◌, cond, Option, Some, None, Result, Ok, Err, is_none, int_cmp, int_eq, Ordering, Less, Equal, Greater, option_map, if◌then◌else◌}
+use Rattle.std.proofs.Common.{arith, ◌≡◌, ◌≤◌, ℕ, zero, suc, ℤ, List, [], ◌∷◌, length, map, take, filter, refl, ap, sym, subst, ◌∙◌, Bool, true, false, ◌||◌, cond, Option, Some, None, Result, Ok, Err, inl, is_none, int_cmp, int_eq, Ordering, Less, Equal, Greater, option_map, if◌then◌else◌}
 use Rattle.std.specs.Prelude.{slice_set, unwrap_or}
 use Rattle.std.specs.List.{AllByRecursion, list_any}
 use Rattle.std.specs.Option.{option_map_or}
@@ -22,14 +22,14 @@ use Rattle.machine.specs.Statement.{keys_of, made_row}
 use Rattle.machine.proofs.Accepting.{ok_same, without_ok}
 use Rattle.machine.proofs.Placing.{Above, above_less, ascends_above, ascends_rest, has_key_by_keys, put_ascends, put_known_keys, rows_stand}
 use Rattle.trigger_pair.specs.declared.pairs.Pair.{Pair}
-use Rattle.trigger_pair.specs.Laws.{FilledRowsHold, IsPair, OldWritesHold}
+use Rattle.trigger_pair.specs.Laws.{FillingFills, IsPair, OldWritesHold}
 use Rattle.trigger_pair.specs.Stored.{filled, is_marked, new_view, old_view}
 use Rattle.roll_core.specs.declared.phases.Phase.{Phase}
 use Rattle.roll_core.specs.declared.phases.Phase.TheVariants.{Alone, Paired}
 use Rattle.roll_core.specs.declared.store.StoredRow.{StoredRow}
 use Rattle.roll_core.specs.declared.store.StoredTable.{StoredTable}
 use Rattle.roll_core.specs.Filling as fill
-use Rattle.roll_core.specs.Filling.{HasAll, batch_of, filled_clash, filled_made, filled_stored, is_left, put_all, rows_left}
+use Rattle.roll_core.specs.Filling.{HasAll, batch_of, filled_clash, filled_made, filled_stored, is_unfilled, put_all, unfilled_rows}
 use Rattle.roll_core.specs.Store.{IsStoredRow, RowsAscend, bare, kept, meaning, pair_over, phase_of, put_stored, rows_meant, table_place}
 use Rattle.roll_core.specs.Views.{stored_made, stored_sound}
 use Rattle.roll_core.proofs.Beside.{clashes-meaning}
@@ -113,23 +113,23 @@ taken_first q (suc n) (row ∷ rows) h =
         by_other (list_any (int_eq row.key) ks) (not_among q row.key (suc n) rows above rest) ks ∙ more
 
 -- a row's new half is missing exactly where it is still to be filled
-missing_left : (pair : Pair) (row : StoredRow) → is_none (kept Paired (Some pair) row).halves.new ≡ is_left (Some pair) row
+missing_left : (pair : Pair) (row : StoredRow) → is_none (kept Paired (Some pair) row).halves.new ≡ is_unfilled (Some pair) row
 missing_left pair row = by_mark (is_marked pair row.values)
   where
     by_mark : (b : Bool) → is_none (if b then None else Some (new_view pair row.values)) ≡ b
     by_mark true = refl
     by_mark false = refl
 
-pub missing_rows : (pair : Pair) (rows : List StoredRow) → filter (λ row. is_none row.halves.new) (map (kept Paired (Some pair)) rows) ≡ map (kept Paired (Some pair)) (filter (is_left (Some pair)) rows)
+pub missing_rows : (pair : Pair) (rows : List StoredRow) → filter (λ row. is_none row.halves.new) (map (kept Paired (Some pair)) rows) ≡ map (kept Paired (Some pair)) (filter (is_unfilled (Some pair)) rows)
 missing_rows pair [] = refl
-missing_rows pair (row ∷ rows) = by_test (is_left (Some pair) row) (missing_left pair row) (missing_rows pair rows)
+missing_rows pair (row ∷ rows) = by_test (is_unfilled (Some pair) row) (missing_left pair row) (missing_rows pair rows)
   where
     k : StoredRow → Kept
     k r = kept Paired (Some pair) r
 
-    by_test : (b : Bool) → is_none (kept Paired (Some pair) row).halves.new ≡ b → filter (λ row. is_none row.halves.new) (map (kept Paired (Some pair)) rows) ≡ map (kept Paired (Some pair)) (filter (is_left (Some pair)) rows)
+    by_test : (b : Bool) → is_none (kept Paired (Some pair) row).halves.new ≡ b → filter (λ row. is_none row.halves.new) (map (kept Paired (Some pair)) rows) ≡ map (kept Paired (Some pair)) (filter (is_unfilled (Some pair)) rows)
         → cond (is_none (kept Paired (Some pair) row).halves.new) (kept Paired (Some pair) row ∷ filter (λ row. is_none row.halves.new) (map (kept Paired (Some pair)) rows)) (filter (λ row. is_none row.halves.new) (map (kept Paired (Some pair)) rows))
-        ≡ map (kept Paired (Some pair)) (cond b (row ∷ filter (is_left (Some pair)) rows) (filter (is_left (Some pair)) rows))
+        ≡ map (kept Paired (Some pair)) (cond b (row ∷ filter (is_unfilled (Some pair)) rows) (filter (is_unfilled (Some pair)) rows))
     by_test true e there = rw e (ap (λ rs. kept Paired (Some pair) row ∷ rs) there)
     by_test false e there = rw e there
 
@@ -215,25 +215,25 @@ filled_each frame store table both f (row ∷ rows) stand = (filled_one frame st
 
 -- The rows that a batch takes.
 abbrev pub taken : StoredTable → ℕ → List StoredRow
-taken table n = take n (rows_left table)
+taken table n = take n (unfilled_rows table)
 
 pub filled_all : (frame : State) (store : List StoredTable) (table : StoredTable) (both : Shared) (n : ℕ) → FillsTable frame store table both
     → every (map (filled_row (meaning frame store) both) (map (kept (phase_of frame) table.pair) (taken table n))) ≡ map_ok (map (kept (phase_of frame) table.pair)) (every (map (filled_stored frame table) (taken table n)))
 filled_all frame store table both n f =
     let P : StoredRow → Type 0 = λ row. filled_row (meaning frame store) both (kept (phase_of frame) table.pair row) ≡ map_ok (kept (phase_of frame) table.pair) (filled_stored frame table row) in
     let each = filled_each frame store table both f table.rows f.stand in
-    every_mapped (filled_row (meaning frame store) both) (filled_stored frame table) (kept (phase_of frame) table.pair) (taken table n) (all_take P n (rows_left table) (all_filter P (is_left table.pair) table.rows each))
+    every_mapped (filled_row (meaning frame store) both) (filled_stored frame table) (kept (phase_of frame) table.pair) (taken table n) (all_take P n (unfilled_rows table) (all_filter P (is_unfilled table.pair) table.rows each))
 
 -- the rows that the machine takes
 taken_by : (both : Shared) (rows : List StoredRow) (n : ℕ) → RowsAscend rows → (phase : Phase) (pair : Option Pair) → phase ≡ Paired → pair ≡ Some (pair_over both) → Ascends (map (kept phase pair) rows)
-    → rows_at (take n (map (λ row. row.key) (filter (λ row. is_none row.halves.new) (map (kept phase pair) rows)))) (map (kept phase pair) rows) ≡ map (kept phase pair) (take n (filter (is_left pair) rows))
+    → rows_at (take n (map (λ row. row.key) (filter (λ row. is_none row.halves.new) (map (kept phase pair) rows)))) (map (kept phase pair) rows) ≡ map (kept phase pair) (take n (filter (is_unfilled pair) rows))
 taken_by both rows n a phase pair p has ascends =
     let o : Option Pair = Some (pair_over both) in
-    let start : rows_at (take n (map (λ row. row.key) (filter (λ row. is_none row.halves.new) (map (kept Paired o) rows)))) (map (kept Paired o) rows) ≡ map (kept Paired o) (take n (filter (is_left o) rows)) =
+    let start : rows_at (take n (map (λ row. row.key) (filter (λ row. is_none row.halves.new) (map (kept Paired o) rows)))) (map (kept Paired o) rows) ≡ map (kept Paired o) (take n (filter (is_unfilled o) rows)) =
     taken_first (λ row. is_none row.halves.new) n (map (kept Paired o) rows) (subst (λ (q : Option Pair). Ascends (map (kept Paired q) rows)) has (subst (λ (ph : Phase). Ascends (map (kept ph pair) rows)) p ascends))
-    ∙ ap (take n) (missing_rows (pair_over both) rows) ∙ take_map (kept Paired o) n (filter (is_left o) rows) in
-    let paired = subst (λ (q : Option Pair). rows_at (take n (map (λ row. row.key) (filter (λ row. is_none row.halves.new) (map (kept Paired q) rows)))) (map (kept Paired q) rows) ≡ map (kept Paired q) (take n (filter (is_left q) rows))) (sym has) start in
-    subst (λ (ph : Phase). rows_at (take n (map (λ row. row.key) (filter (λ row. is_none row.halves.new) (map (kept ph pair) rows)))) (map (kept ph pair) rows) ≡ map (kept ph pair) (take n (filter (is_left pair) rows))) (sym p) paired
+    ∙ ap (take n) (missing_rows (pair_over both) rows) ∙ take_map (kept Paired o) n (filter (is_unfilled o) rows) in
+    let paired = subst (λ (q : Option Pair). rows_at (take n (map (λ row. row.key) (filter (λ row. is_none row.halves.new) (map (kept Paired q) rows)))) (map (kept Paired q) rows) ≡ map (kept Paired q) (take n (filter (is_unfilled q) rows))) (sym has) start in
+    subst (λ (ph : Phase). rows_at (take n (map (λ row. row.key) (filter (λ row. is_none row.halves.new) (map (kept ph pair) rows)))) (map (kept ph pair) rows) ≡ map (kept ph pair) (take n (filter (is_unfilled pair) rows))) (sym p) paired
 
 -- ---- putting them
 
@@ -326,15 +326,14 @@ made_ok key (Ok values) row h = (values, refl, ok_same {E = Cause} (record { key
 made_ok key (Err fault) row h = cc
 
 -- a filled row is stored by the phase
-filled_stored_by : FilledRowsHold → (both : Shared) (row : StoredRow) (values : List Value) → IsPair (pair_over both) → row_fits (shape_of both.old) (old_view (pair_over both) row.values) ≡ true
+filled_stored_by : FillingFills → (both : Shared) (row : StoredRow) (values : List Value) → IsPair (pair_over both) → row_fits (shape_of both.old) (old_view (pair_over both) row.values) ≡ true
     → (phase : Phase) (pair : Option Pair) → phase ≡ Paired → pair ≡ Some (pair_over both) → fill.filled_values pair row.values ≡ Ok values → IsStoredRow phase pair (record { key = row.key; values = values })
 filled_stored_by law both row values is fit phase pair p has h =
     let made : filled (pair_over both) row.values ≡ Ok values = subst (λ (o : Option Pair). fill.filled_values o row.values ≡ Ok values) has h in
-    let holds = (law (pair_over both) row.values values is fit made).2 in
-    let paired : IsStoredRow Paired (Some (pair_over both)) (record { key = row.key; values = values }) = (holds.long, λ m. let no = holds.mark in cc) in
+    let paired : IsStoredRow Paired (Some (pair_over both)) (record { key = row.key; values = values }) = inl (law (pair_over both) row.values values is fit made) in
     subst (λ (ph : Phase). IsStoredRow ph pair (record { key = row.key; values = values })) (sym p) (subst (λ (o : Option Pair). IsStoredRow Paired o (record { key = row.key; values = values })) (sym has) paired)
 
-pub are_filled : FilledRowsHold → (frame : State) (store : List StoredTable) (table : StoredTable) (both : Shared) → FillsTable frame store table both → (rows new : List StoredRow)
+pub are_filled : FillingFills → (frame : State) (store : List StoredTable) (table : StoredTable) (both : Shared) → FillsTable frame store table both → (rows new : List StoredRow)
     → AllByRecursion (λ row. RowStands (meaning frame store) table.number (kept (phase_of frame) table.pair row)) rows → every (map (filled_stored frame table) rows) ≡ Ok new → AreFilled frame table rows new
 are_filled law frame store table both f [] new stand h = subst (AreFilled frame table []) (ok_same {E = Cause} [] new h) (record { stored = tt; keys = refl })
 are_filled law frame store table both f (row ∷ rows) new stand h =
@@ -354,12 +353,12 @@ each_stands : (s : State) (number : ℕ) (phase : Phase) (pair : Option Pair) (r
 each_stands s number phase pair [] h = tt
 each_stands s number phase pair (row ∷ rows) h = (h.0, each_stands s number phase pair rows h.1)
 
-pub taken_filled : FilledRowsHold → (frame : State) (store : List StoredTable) (table : StoredTable) (both : Shared) (n : ℕ) (new : List StoredRow) → FillsTable frame store table both
+pub taken_filled : FillingFills → (frame : State) (store : List StoredTable) (table : StoredTable) (both : Shared) (n : ℕ) (new : List StoredRow) → FillsTable frame store table both
     → every (map (filled_stored frame table) (taken table n)) ≡ Ok new → AreFilled frame table (taken table n) new
 taken_filled law frame store table both n new f h =
     let P : StoredRow → Type 0 = λ row. RowStands (meaning frame store) table.number (kept (phase_of frame) table.pair row) in
     let stand = each_stands (meaning frame store) table.number (phase_of frame) table.pair table.rows f.stand in
-    are_filled law frame store table both f (taken table n) new (all_take P n (rows_left table) (all_filter P (is_left table.pair) table.rows stand)) h
+    are_filled law frame store table both f (taken table n) new (all_take P n (unfilled_rows table) (all_filter P (is_unfilled table.pair) table.rows stand)) h
 
 -- the keys of filled rows are there
 own_keys : (rows : List StoredRow) → HasAll rows rows
@@ -386,7 +385,7 @@ by_keys rows (x ∷ xs) (y ∷ ys) e h =
 pub filled_there : (table : StoredTable) (n : ℕ) (new : List StoredRow) → fill.keys_of new ≡ fill.keys_of (taken table n) → HasAll table.rows new
 filled_there table n new e =
     let P : StoredRow → Type 0 = λ row. has_key row.key (map bare table.rows) ≡ true in
-    by_keys table.rows (taken table n) new e (all_take P n (rows_left table) (all_filter P (is_left table.pair) table.rows (own_keys table.rows)))
+    by_keys table.rows (taken table n) new e (all_take P n (unfilled_rows table) (all_filter P (is_unfilled table.pair) table.rows (own_keys table.rows)))
 
 take_few : {X : Type 0} (n : ℕ) (xs : List X) → length (take n xs) ≤ n
 take_few zero xs = omega arith
@@ -400,7 +399,7 @@ keys_length (row ∷ rows) = ap suc (keys_length rows)
 pub filled_few : (table : StoredTable) (n : ℕ) (new : List StoredRow) → fill.keys_of new ≡ fill.keys_of (taken table n) → length new ≤ n
 filled_few table n new e =
     let same : length new ≡ length (taken table n) = sym (keys_length new) ∙ ap length e ∙ keys_length (taken table n) in
-    let few = take_few n (rows_left table) in
+    let few = take_few n (unfilled_rows table) in
     omega (arith, same, few)
 
 -- Each row put, all are stored by the phase.

@@ -19,7 +19,7 @@ use Rattle.trigger_pair.specs.Laws.{IsPair}
 use Rattle.roll_core.specs.declared.phases.Phase.{Phase}
 use Rattle.roll_core.specs.declared.phases.Phase.TheVariants.{Alone, Paired, Leaving, Trimmed}
 use Rattle.roll_core.specs.declared.store.StoredTable.{StoredTable}
-use Rattle.roll_core.specs.Store.{HasPair, IsLeft, IsStored, IsStoredTable, RowsAscend, calm_phase, meaning, pair_over, phase_in, phase_of, rows_meant, stored_numbers, table_place}
+use Rattle.roll_core.specs.Store.{HasPair, HasFormerPair, IsStored, IsStoredTable, RowsAscend, calm_phase, meaning, pair_over, phase_in, phase_of, rows_meant, stored_numbers, table_place}
 use Rattle.roll_core.specs.Views.{IsOnSide}
 use Rattle.roll_core.proofs.Frames.{alone_calm, is_pair, old_side, table_on-meaning, unshared}
 use Rattle.roll_core.proofs.Rows.{ascend_bare}
@@ -113,7 +113,7 @@ not_calm s phase p is m = calm_not (sym (ap (λ mode. phase_in mode s.left) m) �
 same_some : {X : Type 0} (a b : X) → Some a ≡ Some b → a ≡ b
 same_some a b h = cc
 
-left_by : (frame : State) (table : StoredTable) (found : Found) → IsOnSide frame found → found.side ≡ Old → table.number ≡ number_of found.table → IsLeft frame table → HasLeft table.pair found.table
+left_by : (frame : State) (table : StoredTable) (found : Found) → IsOnSide frame found → found.side ≡ Old → table.number ≡ number_of found.table → HasFormerPair frame table → HasLeft table.pair found.table
 left_by frame table found on old n h =
     let on_old : table_numbered frame.schema (number_of found.table) ≡ Some found.table = subst (λ side. table_on frame side (number_of found.table) ≡ Some found.table) old on in
     let shape : shape_numbered frame.schema (number_of found.table) ≡ Some (shape_of found.table) = ap (option_map shape_of) on_old in

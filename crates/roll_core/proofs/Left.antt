@@ -24,7 +24,7 @@ use Rattle.roll_core.specs.declared.phases.Phase.{Phase}
 use Rattle.roll_core.specs.declared.phases.Phase.TheVariants.{Paired}
 use Rattle.roll_core.specs.declared.store.StoredRow.{StoredRow}
 use Rattle.roll_core.specs.declared.store.StoredTable.{StoredTable}
-use Rattle.roll_core.specs.Filling.{batch_of, has_left, is_left, left_place}
+use Rattle.roll_core.specs.Filling.{batch_of, has_unfilled, is_unfilled, unfilled_place}
 use Rattle.roll_core.specs.Store.{HasPair, IsStored, IsStoredTable, kept, meaning, pair_over, phase_in, phase_of, rows_meant, stored_numbers, table_meant}
 use Rattle.roll_core.proofs.Filled.{FillsTable, missing_rows}
 use Rattle.roll_core.proofs.Frames.{is_pair}
@@ -58,7 +58,7 @@ filling_phase s n h =
 
 -- ---- rows that are to be filled
 
-none_left : (rows : List StoredRow) → list_any (is_left None) rows ≡ false
+none_left : (rows : List StoredRow) → list_any (is_unfilled None) rows ≡ false
 none_left [] = refl
 none_left (row ∷ rows) = none_left rows
 
@@ -77,16 +77,16 @@ map_map f g (x ∷ xs) = ap (λ ys. g (f x) ∷ ys) (map_map f g xs)
 abbrev missing_of : Option Shared → List Kept → List ℤ
 missing_of both rows = option_map_or (λ pair. map (λ row. row.key) (filter (λ row. is_none row.halves.new) rows)) both []
 
-missing_by : (table : StoredTable) (both : Option Shared) (phase : Phase) → phase ≡ Paired → table.pair ≡ option_map pair_over both → nat_lt 0 (length (missing_of both (map (kept phase table.pair) table.rows))) ≡ has_left table
-missing_by table None phase p h = sym (ap (λ (o : Option Pair). list_any (is_left o) table.rows) h ∙ none_left table.rows)
+missing_by : (table : StoredTable) (both : Option Shared) (phase : Phase) → phase ≡ Paired → table.pair ≡ option_map pair_over both → nat_lt 0 (length (missing_of both (map (kept phase table.pair) table.rows))) ≡ has_unfilled table
+missing_by table None phase p h = sym (ap (λ (o : Option Pair). list_any (is_unfilled o) table.rows) h ∙ none_left table.rows)
 missing_by table (Some both) phase p h =
     let pair = pair_over both in
     let kept_as : map (kept phase table.pair) table.rows ≡ map (kept Paired (Some pair)) table.rows = ap (λ (ph : Phase). map (kept ph table.pair) table.rows) p ∙ ap (λ (o : Option Pair). map (kept Paired o) table.rows) h in
     ap (λ (rows : List Kept). nat_lt 0 (length (map (λ row. row.key) (filter (λ row. is_none row.halves.new) rows)))) kept_as
     ∙ ap (λ (rows : List Kept). nat_lt 0 (length (map (λ row. row.key) rows))) (missing_rows pair table.rows)
-    ∙ ap (λ (keys : List ℤ). nat_lt 0 (length keys)) (map_map (kept Paired (Some pair)) (λ row. row.key) (filter (is_left (Some pair)) table.rows))
-    ∙ any_left (is_left (Some pair)) (λ row. row.key) table.rows
-    ∙ ap (λ (o : Option Pair). list_any (is_left o) table.rows) (sym h)
+    ∙ ap (λ (keys : List ℤ). nat_lt 0 (length keys)) (map_map (kept Paired (Some pair)) (λ row. row.key) (filter (is_unfilled (Some pair)) table.rows))
+    ∙ any_left (is_unfilled (Some pair)) (λ row. row.key) table.rows
+    ∙ ap (λ (o : Option Pair). list_any (is_unfilled o) table.rows) (sym h)
 
 -- ---- each table
 
@@ -103,7 +103,7 @@ rows_each frame store a =
     so (table ∷ ts) h = (ap (λ (o : Option (ℕ × List Kept)). option_map_or (λ table. table.1) o []) h.0, so ts h.1)
 
 left_each : (frame : State) (store : List StoredTable) → phase_of frame ≡ Paired → (ts : List StoredTable) → AllByRecursion (IsStoredTable frame) ts → AllByRecursion (λ table. rows_of (meaning frame store) table.number ≡ rows_meant (phase_of frame) table) ts
-    → AllByRecursion (λ table. has_missing (meaning frame store) table.number ≡ has_left table) ts
+    → AllByRecursion (λ table. has_missing (meaning frame store) table.number ≡ has_unfilled table) ts
 left_each frame store p [] stored rows = tt
 left_each frame store p (table ∷ ts) stored rows =
     let pair = subst (λ ph. HasPair ph frame table) p stored.0.pair in (
@@ -111,17 +111,17 @@ left_each frame store p (table ∷ ts) stored rows =
       left_each frame store p ts stored.1 rows.1,
     )
 
-first_by : (s : State) (ts : List StoredTable) → AllByRecursion (λ table. has_missing s table.number ≡ has_left table) ts → first_of (filter (has_missing s) (stored_numbers ts)) ≡ option_map (λ table. table.number) (slice_get ts (left_place ts))
+first_by : (s : State) (ts : List StoredTable) → AllByRecursion (λ table. has_missing s table.number ≡ has_unfilled table) ts → first_of (filter (has_missing s) (stored_numbers ts)) ≡ option_map (λ table. table.number) (slice_get ts (unfilled_place ts))
 first_by s [] h = refl
-first_by s (table ∷ ts) h = by_test (has_left table) h.0 (first_by s ts h.1)
+first_by s (table ∷ ts) h = by_test (has_unfilled table) h.0 (first_by s ts h.1)
   where
-    by_test : (b : Bool) → has_missing s table.number ≡ b → first_of (filter (has_missing s) (stored_numbers ts)) ≡ option_map (λ table. table.number) (slice_get ts (left_place ts))
-        → first_of (cond (has_missing s table.number) (table.number ∷ filter (has_missing s) (stored_numbers ts)) (filter (has_missing s) (stored_numbers ts))) ≡ option_map (λ table. table.number) (slice_get (table ∷ ts) (if b then 0 else suc (left_place ts)))
+    by_test : (b : Bool) → has_missing s table.number ≡ b → first_of (filter (has_missing s) (stored_numbers ts)) ≡ option_map (λ table. table.number) (slice_get ts (unfilled_place ts))
+        → first_of (cond (has_missing s table.number) (table.number ∷ filter (has_missing s) (stored_numbers ts)) (filter (has_missing s) (stored_numbers ts))) ≡ option_map (λ table. table.number) (slice_get (table ∷ ts) (if b then 0 else suc (unfilled_place ts)))
     by_test true e there = rw e refl
     by_test false e there = rw e there
 
 -- The first table that has a row to be filled is that at its place.
-pub first_left : (frame : State) (store : List StoredTable) → IsStored frame store → phase_of frame ≡ Paired → first_of (unfilled_tables (meaning frame store)) ≡ option_map (λ table. table.number) (slice_get store (left_place store))
+pub first_left : (frame : State) (store : List StoredTable) → IsStored frame store → phase_of frame ≡ Paired → first_of (unfilled_tables (meaning frame store)) ≡ option_map (λ table. table.number) (slice_get store (unfilled_place store))
 first_left frame store stored p =
     let s = meaning frame store in
     let rows = rows_each frame store stored.stands.numbers in
@@ -135,25 +135,25 @@ past_end [] at e = refl
 past_end (x ∷ xs) zero e = absurd (omega arith)
 past_end (x ∷ xs) (suc at) e = past_end xs at (omega arith)
 
-fill_by : (frame : State) (store : List StoredTable) (n : ℕ) → IsStored frame store → may_not_fill frame n ≡ None → least_fill (meaning frame store) n ≡ least_batch (meaning frame store) n (option_map (λ table. table.number) (slice_get store (left_place store)))
+fill_by : (frame : State) (store : List StoredTable) (n : ℕ) → IsStored frame store → may_not_fill frame n ≡ None → least_fill (meaning frame store) n ≡ least_batch (meaning frame store) n (option_map (λ table. table.number) (slice_get store (unfilled_place store)))
 fill_by frame store n stored may =
     let s = meaning frame store in
     ap (λ (refusal : Option Refusal). guarded refusal (least_batch s n (first_of (unfilled_tables s)))) may
     ∙ ap (least_batch s n) (first_left frame store stored (filling_phase frame n may))
 
 -- No row is left.
-pub least_none : (frame : State) (store : List StoredTable) (n : ℕ) → IsStored frame store → may_not_fill frame n ≡ None → left_place store ≡ length store → least_fill (meaning frame store) n ≡ Ok (Filled, meaning frame store)
+pub least_none : (frame : State) (store : List StoredTable) (n : ℕ) → IsStored frame store → may_not_fill frame n ≡ None → unfilled_place store ≡ length store → least_fill (meaning frame store) n ≡ Ok (Filled, meaning frame store)
 least_none frame store n stored may e =
-    fill_by frame store n stored may ∙ ap (λ (o : Option StoredTable). least_batch (meaning frame store) n (option_map (λ table. table.number) o)) (past_end store (left_place store) e)
+    fill_by frame store n stored may ∙ ap (λ (o : Option StoredTable). least_batch (meaning frame store) n (option_map (λ table. table.number) o)) (past_end store (unfilled_place store) e)
 
 -- The table isn't shared: there is nothing to fill.
-pub least_alone : (frame : State) (store : List StoredTable) (n : ℕ) (table : StoredTable) → IsStored frame store → may_not_fill frame n ≡ None → slice_get store (left_place store) ≡ Some table → shared frame table.number ≡ None → least_fill (meaning frame store) n ≡ Ok (Filled, meaning frame store)
+pub least_alone : (frame : State) (store : List StoredTable) (n : ℕ) (table : StoredTable) → IsStored frame store → may_not_fill frame n ≡ None → slice_get store (unfilled_place store) ≡ Some table → shared frame table.number ≡ None → least_fill (meaning frame store) n ≡ Ok (Filled, meaning frame store)
 least_alone frame store n table stored may e none =
     let s = meaning frame store in
     fill_by frame store n stored may ∙ ap (λ (o : Option StoredTable). least_batch s n (option_map (λ table. table.number) o)) e ∙ rw none refl
 
 -- It is: a batch of it.
-pub least_some : (frame : State) (store : List StoredTable) (n : ℕ) (table : StoredTable) (both : Shared) → IsStored frame store → may_not_fill frame n ≡ None → slice_get store (left_place store) ≡ Some table → shared frame table.number ≡ Some both → least_fill (meaning frame store) n ≡ batch_of (meaning frame store) both n
+pub least_some : (frame : State) (store : List StoredTable) (n : ℕ) (table : StoredTable) (both : Shared) → IsStored frame store → may_not_fill frame n ≡ None → slice_get store (unfilled_place store) ≡ Some table → shared frame table.number ≡ Some both → least_fill (meaning frame store) n ≡ batch_of (meaning frame store) both n
 least_some frame store n table both stored may e is =
     let s = meaning frame store in
     let number : table.number ≡ number_of both.new = sym (number_on s table.number both.new (pair_stands s table.number both stored.stands is).new) in
@@ -185,13 +185,13 @@ fills_table law frame store both at table stored p e is =
       ascend = ascend_bare (phase_of frame) table.pair table.rows (subst Ascends rows stand.0);
     }
 
-left_upto : (store : List StoredTable) → left_place store ≤ length store
+left_upto : (store : List StoredTable) → unfilled_place store ≤ length store
 left_upto [] = omega arith
-left_upto (table ∷ store) = by_test (has_left table) (left_upto store)
+left_upto (table ∷ store) = by_test (has_unfilled table) (left_upto store)
   where
-    by_test : (b : Bool) → left_place store ≤ length store → (if b then 0 else suc (left_place store)) ≤ suc (length store)
+    by_test : (b : Bool) → unfilled_place store ≤ length store → (if b then 0 else suc (unfilled_place store)) ≤ suc (length store)
     by_test true there = omega arith
     by_test false there = omega arith
 
-pub left_within : (store : List StoredTable) (at : ℕ) → at ≡ left_place store → (at ≡ length store → ⊥) → at < length store
+pub left_within : (store : List StoredTable) (at : ℕ) → at ≡ unfilled_place store → (at ≡ length store → ⊥) → at < length store
 left_within store at e more = let upto = left_upto store in let apart : at ≢ length store = more in omega (arith, e, upto, apart)

@@ -17,7 +17,7 @@ use Rattle.roll_core.specs.Views.{IsOnSide, RowIsStored, cause_beside, is_full, 
 use Rattle.roll_core.proofs.Beside.{beside, beside_done, beside_full, beside_refused, with_row, with_row_stored, write_refused, write_row, written_stored}
 use Rattle.roll_core.proofs.Found.{IsFound, found_stored}
 use Rattle.roll_core.proofs.Frames.{table_of-meaning, table_on-meaning}
-use Rattle.roll_core.proofs.Writing.{WritesHold, map_ok, new_row_stored, new_stored_long}
+use Rattle.roll_core.proofs.Writing.{WritesHold, map_ok, new_row_stored, new_stored_by_phase}
 
 -- ---- elements
 
@@ -129,7 +129,7 @@ pub new_long : WritesHold → (frame : State) (store : List StoredTable) (found 
     → new_stored frame found (slice_index_or store at d).pair values ≡ Ok row → RowIsStored frame (pair_at at store) row
 new_long law frame store found at values row d stored on r fit h =
     let made = subst (λ (t : StoredTable). new_stored frame found t.pair values ≡ Ok row) (r.is d) h in
-    subst (λ pair. IsStoredRow (phase_of frame) pair row) (sym r.pair) (new_stored_long law frame store found values row stored on r.f fit made)
+    subst (λ pair. IsStoredRow (phase_of frame) pair row) (sym r.pair) (new_stored_by_phase law frame store found values row stored on r.f fit made)
 
 -- the machine's new row, of the one that was made
 new_is : WritesHold → (frame : State) (store : List StoredTable) (found : Found) (at : ℕ) (values : List Value) (d : StoredTable) (made : Result StoredRow Cause) → IsStored frame store → IsOnSide frame found → (r : IsRead frame store found at) → row_fits (shape_of found.table) values ≡ true

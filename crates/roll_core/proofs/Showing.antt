@@ -1,14 +1,12 @@
 -- What a stored row shows is what the row shows that it means.
-use Rattle.std.proofs.Common.{◌≡◌, ℕ, zero, suc, List, [], ◌∷◌, length, map, take, refl, ap, sym, subst, ◌∙◌, Bool, true, false, Option, Some, None, Result, Ok, Err, nat_lt, if◌then◌else◌}
+use Rattle.std.proofs.Common.{◌≡◌, ℕ, zero, suc, List, [], ◌∷◌, length, map, take, refl, ap, sym, subst, ◌∙◌, Bool, true, false, Option, Some, None, Result, Ok, Err, inl, inr, nat_lt, if◌then◌else◌}
 use Rattle.std.specs.Prelude.{unwrap_or}
 use Rattle.std.specs.List.{AllByRecursion}
 use Rattle.sql_base.specs.Fit.{row_fits}
 use Rattle.sql_base.specs.Outcome.{and_then, every}
 use Rattle.sql_base.specs.declared.stmts.Items.{Items}
 use Rattle.sql_base.specs.declared.values.Value.{Value}
-use Rattle.mig_lens.specs.Lens.{unfilled, unfilled_value}
-use Rattle.mig_lens.specs.declared.columns.Cell.{Cell}
-use Rattle.mig_lens.specs.declared.columns.Cell.TheVariants.{Carry, Make, Still}
+use Rattle.mig_lens.specs.Lens.{unfilled}
 use Rattle.mig_lens.specs.declared.columns.Side.{Side}
 use Rattle.mig_lens.specs.declared.columns.Side.TheVariants.{Old, New}
 use Rattle.machine.specs.declared.events.Reply.{Reply}
@@ -23,7 +21,8 @@ use Rattle.machine.specs.declared.stops.Stop.TheVariants.{Because, NoMemory}
 use Rattle.machine.specs.Stops.{Answers as GivesRows}
 use Rattle.machine.proofs.Pairs.{pair_stands}
 use Rattle.trigger_pair.specs.declared.pairs.Pair.{Pair}
-use Rattle.trigger_pair.specs.Laws.{BegunRowsHold, IsPair}
+use Rattle.trigger_pair.specs.Laws.{BegunRowsHold, FilledRowsAreLong, IsPair, UnfilledRowsAreBegun}
+use Rattle.trigger_pair.specs.Rows.{IsPairedRow}
 use Rattle.trigger_pair.specs.Stored.{begun, is_marked, new_view, old_view}
 use Rattle.roll_core.specs.declared.phases.Phase.{Phase}
 use Rattle.roll_core.specs.declared.phases.Phase.TheVariants.{Alone, Paired, Leaving, Trimmed}
@@ -35,9 +34,20 @@ use Rattle.roll_core.specs.Views.{picked_stored, selected, view}
 use Rattle.roll_core.proofs.Found.{IsFound, Suits}
 use Rattle.roll_core.proofs.Tables.{rows_of-here}
 
+-- The laws of stored rows that reading stands on.
+pub record ReadingHolds : Type 0 where
+  pub shown : BegunRowsHold
+  pub filled : FilledRowsAreLong
+  pub unfilled : UnfilledRowsAreBegun
+
 -- ---- one row
 
--- A marked row shows in the new view what the machine shows of a row that is still to be filled.
+-- A marked row is as START left it.
+marked_begun : ReadingHolds → (pair : Pair) (values : List Value) → IsPair pair → IsPairedRow pair values → is_marked pair values ≡ true → values ≡ begun pair (old_view pair values)
+marked_begun law pair values is (inl row) m = let no = (law.filled pair values is row).1 in cc
+marked_begun law pair values is (inr row) m = (law.unfilled pair values is row).2
+
+-- It shows in the new view what the machine shows of a row that is still to be filled.
 marked_shows : BegunRowsHold → (pair : Pair) (values : List Value) → IsPair pair → row_fits pair.old (old_view pair values) ≡ true → values ≡ begun pair (old_view pair values)
     → unfilled pair.lens (old_view pair values) ≡ new_view pair values
 marked_shows law pair values is fit begun_is =
@@ -52,7 +62,7 @@ old_fits s number row both values on has stands =
     there.0
 
 -- What a stored row of a found table shows.
-view_shows : BegunRowsHold → (s : State) (number : ℕ) (row : StoredRow) (phase : Phase) (pair : Option Pair) (found : Found) (both : Option Shared)
+view_shows : ReadingHolds → (s : State) (number : ℕ) (row : StoredRow) (phase : Phase) (pair : Option Pair) (found : Found) (both : Option Shared)
     → ((both : Shared) → shared s number ≡ Some both → table_on s Old number ≡ Some both.old) → shared s number ≡ both
     → Suits phase pair found both → IsStoredRow phase pair row → RowStands s number (kept phase pair row)
     → shown_by both found.side (halves_of phase pair row.values) ≡ view phase pair found.side row.values
@@ -77,7 +87,7 @@ view_shows law s number row Paired (Some pair) found both on e suits stored stan
     by_mark : (b : Bool) → is_marked pair row.values ≡ b
         → unwrap_or (if b then None else Some (new_view pair row.values)) (unfilled suits.both.lens (old_view pair row.values)) ≡ new_view pair row.values
     by_mark false m = refl
-    by_mark true m = ap (λ (p : Pair). unfilled p.lens (old_view pair row.values)) (sym same) ∙ marked_shows law pair row.values pair_is fit (stored.1 m)
+    by_mark true m = ap (λ (p : Pair). unfilled p.lens (old_view pair row.values)) (sym same) ∙ marked_shows law.shown pair row.values pair_is fit (marked_begun law pair row.values pair_is stored m)
 
     by_side : (side : Side) → shown_by both side (halves_of Paired (Some pair) row.values) ≡ view Paired (Some pair) side row.values
     by_side Old = refl
@@ -86,7 +96,7 @@ view_shows law s number row Paired (Some pair) found both on e suits stored stan
 -- ---- all rows
 
 -- so what is picked of each is the same
-picked_same : BegunRowsHold → (s : State) (found : Found) (items : Items) (phase : Phase) (pair : Option Pair) (rows : List StoredRow) (n : ℕ)
+picked_same : ReadingHolds → (s : State) (found : Found) (items : Items) (phase : Phase) (pair : Option Pair) (rows : List StoredRow) (n : ℕ)
     → ((both : Shared) → shared s (number_of found.table) ≡ Some both → table_on s Old (number_of found.table) ≡ Some both.old)
     → Suits phase pair found (shared s (number_of found.table)) → AllByRecursion (IsStoredRow phase pair) rows → RowsStand s (number_of found.table) (map (kept phase pair) rows)
     → map (picked_row s found items) (take n (map (kept phase pair) rows)) ≡ map (picked_stored phase pair found items) (take n rows)
@@ -116,7 +126,7 @@ by_length s (Err fault) long = refl
 by_length s (Ok all) true = refl
 by_length s (Ok all) false = refl
 
-pub select_rows-stored : BegunRowsHold → (frame : State) (store : List StoredTable) (found : Found) (items : Items) → IsStored frame store → (f : IsFound frame store found)
+pub select_rows-stored : ReadingHolds → (frame : State) (store : List StoredTable) (found : Found) (items : Items) → IsStored frame store → (f : IsFound frame store found)
     → select_rows (meaning frame store) found items (rows_of (meaning frame store) (number_of found.table)) ≡ reply_of (meaning frame store) (selected (phase_of frame) f.table found items)
 select_rows-stored law frame store found items stored f =
     let s = meaning frame store in

@@ -1,5 +1,5 @@
 -- A new row that is stored is the row that the machine makes.
-use Rattle.std.proofs.Common.{◌≡◌, ℕ, ℤ, List, length, refl, ap, sym, subst, ◌∙◌, Bool, true, false, Option, Some, None, Result, Ok, Err, if◌then◌else◌}
+use Rattle.std.proofs.Common.{◌≡◌, ℕ, ℤ, List, refl, ap, sym, subst, ◌∙◌, Bool, true, false, Option, Some, None, Result, Ok, Err, inl, if◌then◌else◌}
 use Rattle.sql_base.specs.Fit.{row_fits}
 use Rattle.sql_base.specs.Outcome.{and_then}
 use Rattle.sql_base.specs.declared.faults.EvalFault.{EvalFault}
@@ -19,10 +19,11 @@ use Rattle.mig_lens.proofs.MadeHalves.{and_then_ok}
 use Rattle.machine.proofs.Accepting.{ok_same, without_ok}
 use Rattle.machine.proofs.Pairs.{pair_stands, some_same}
 use Rattle.trigger_pair.specs.declared.pairs.Pair.{Pair}
-use Rattle.trigger_pair.specs.Laws.{Holds, IsPair, NewWritesHold, OldWritesHold}
+use Rattle.trigger_pair.specs.Laws.{Holds, IsPair, NewWritesFill, NewWritesHold, OldWritesFill, OldWritesHold}
+use Rattle.trigger_pair.specs.Rows.{IsFilledRow}
 use Rattle.trigger_pair.specs.Stored.{new_half, new_view, stored_row}
-use Rattle.phase_steps.specs.Laws.{LeavingRowsShow, TrimmingKeepsView}
-use Rattle.phase_steps.specs.Rows.{leaving_row, trimmed, trimmed_view}
+use Rattle.phase_steps.specs.Laws.{LeavingRowsAreFilled, LeavingRowsShow, TrimmingKeepsView, TrimmingLeavesTrimmed}
+use Rattle.phase_steps.specs.Rows.{IsTrimmedRow, leaving_row, trimmed, trimmed_view}
 use Rattle.roll_core.specs.declared.phases.Phase.{Phase}
 use Rattle.roll_core.specs.declared.phases.Phase.TheVariants.{Alone, Paired, Leaving, Trimmed}
 use Rattle.roll_core.specs.declared.store.StoredRow.{StoredRow}
@@ -43,6 +44,10 @@ pub record WritesHold : Type 0 where
   pub new : NewWritesHold
   pub left : LeavingRowsShow
   pub trims : TrimmingKeepsView
+  pub old_fills : OldWritesFill
+  pub new_fills : NewWritesFill
+  pub left_filled : LeavingRowsAreFilled
+  pub trimmed : TrimmingLeavesTrimmed
 
 -- ---- through a table that both versions have
 
@@ -170,7 +175,14 @@ stored_by : WritesHold → (found : Found) (values : List Value) (phase : Phase)
     → ((b : Shared) → both ≡ Some b → (found.side ≡ Old → b.old ≡ found.table) × (found.side ≡ New → b.new ≡ found.table))
     → (key : ℤ) (stored : List Value) → stored_values phase pair found.side values ≡ Ok stored → IsStoredRow phase pair (record { key = key; values = stored })
 stored_by law found values Alone pair both suits fit on key stored e = tt
-stored_by law found values Trimmed pair both suits fit on key stored e = tt
+stored_by law found values Trimmed None both suits fit on key stored e = tt
+stored_by law found values Trimmed (Some pair) both suits fit on key stored e =
+    let left = suits.1 in
+    let same : pair ≡ left.pair_left = some_same pair left.pair_left left.has in
+    let is = subst IsPair (sym same) left.is_pair in
+    let fits_new = subst (λ shape. row_fits shape values ≡ true) (left.shape ∙ ap (λ (p : Pair). p.new) (sym same)) fit in
+    let row : trimmed pair.lens (leaving_row pair.lens values) ≡ stored = ok_same {E = EvalFault} (trimmed pair.lens (leaving_row pair.lens values)) stored e in
+    subst (IsTrimmedRow pair) row (law.trimmed pair (leaving_row pair.lens values) is (law.left_filled pair values is fits_new))
 stored_by law found values Leaving None both suits fit on key stored e = tt
 stored_by law found values Leaving (Some pair) both suits fit on key stored e =
     let left = suits.1 in
@@ -178,7 +190,7 @@ stored_by law found values Leaving (Some pair) both suits fit on key stored e =
     let is = subst IsPair (sym same) left.is_pair in
     let fits_new = subst (λ shape. row_fits shape values ≡ true) (left.shape ∙ ap (λ (p : Pair). p.new) (sym same)) fit in
     let row : leaving_row pair.lens values ≡ stored = ok_same {E = EvalFault} (leaving_row pair.lens values) stored e in
-    subst (λ (v : List Value). length v ≡ length pair.layout.columns) row (law.left pair values is fits_new).1
+    subst (IsFilledRow pair) row (law.left_filled pair values is fits_new)
 stored_by law found values Paired None both suits fit on key stored e = tt
 stored_by law found values Paired (Some pair) both suits fit on key stored e = by_side found.side refl (on suits.both suits.is) e
   where
@@ -193,22 +205,20 @@ stored_by law found values Paired (Some pair) both suits fit on key stored e = b
     by_side Old k sides e =
         let fit_old = subst (λ (t : Table). row_fits (shape_of t) values ≡ true) (sym (sides.0 k)) fit in
         let fits_pair : row_fits pair.old values ≡ true = subst (λ (p : Pair). row_fits p.old values ≡ true) (sym same) fit_old in
-        let holds = (law.old pair values stored None is fits_pair e).2 in
-        (holds.long, λ m. let no = holds.mark in cc)
+        inl (law.old_fills pair values stored None is fits_pair refl e)
     by_side New k sides e =
         let fit_new = subst (λ (t : Table). row_fits (shape_of t) values ≡ true) (sym (sides.1 k)) fit in
         let fits_pair : row_fits pair.new values ≡ true = subst (λ (p : Pair). row_fits p.new values ≡ true) (sym same) fit_new in
-        let holds = (law.new pair values stored None is fits_pair e).2 in
-        (holds.long, λ m. let no = holds.mark in cc)
+        inl (law.new_fills pair values stored None is fits_pair refl e)
 
 made_ok : (key : ℤ) (r : Result (List Value) EvalFault) (row : StoredRow) → stored_made key r ≡ Ok row → (values : List Value) × (r ≡ Ok values) × (record { key = key; values = values } ≡ row)
 made_ok key (Ok values) row h = (values, refl, ok_same {E = Cause} (record { key = key; values = values }) row h)
 made_ok key (Err fault) row h = cc
 
 -- A new row that is accepted is stored by the phase.
-pub new_stored_long : WritesHold → (frame : State) (store : List StoredTable) (found : Found) (values : List Value) (row : StoredRow) → IsStored frame store → IsOnSide frame found → (f : IsFound frame store found)
+pub new_stored_by_phase : WritesHold → (frame : State) (store : List StoredTable) (found : Found) (values : List Value) (row : StoredRow) → IsStored frame store → IsOnSide frame found → (f : IsFound frame store found)
     → row_fits (shape_of found.table) values ≡ true → new_stored frame found f.table.pair values ≡ Ok row → IsStoredRow (phase_of frame) f.table.pair row
-new_stored_long law frame store found values row stored on f fit h =
+new_stored_by_phase law frame store found values row stored on f fit h =
     let key = key_of (shape_of found.table) values in
     let pair = f.table.pair in
     let looked = and_then_ok (stored_made key (stored_values (phase_of frame) pair found.side values)) (stored_sound frame found.side (number_of found.table) pair) row h in

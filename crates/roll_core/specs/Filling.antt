@@ -20,21 +20,21 @@ use Rattle.roll_core.specs.Store.{bare, kept, phase_of, put_stored, rows_meant}
 use Rattle.roll_core.specs.Views.{stored_made, stored_sound}
 
 -- Whether a row is still to be filled.
-abbrev pub is_left : Option Pair → StoredRow → Bool
-is_left None row = false
-is_left (Some pair) row = is_marked pair row.values
+abbrev pub is_unfilled : Option Pair → StoredRow → Bool
+is_unfilled None row = false
+is_unfilled (Some pair) row = is_marked pair row.values
 
 -- Those of a table, in ascending key.
-abbrev pub rows_left : StoredTable → List StoredRow
-rows_left table = filter (is_left table.pair) table.rows
+abbrev pub unfilled_rows : StoredTable → List StoredRow
+unfilled_rows table = filter (is_unfilled table.pair) table.rows
 
-abbrev pub has_left : StoredTable → Bool
-has_left table = list_any (is_left table.pair) table.rows
+abbrev pub has_unfilled : StoredTable → Bool
+has_unfilled table = list_any (is_unfilled table.pair) table.rows
 
 -- The place of the first table that has one, or the number of tables.
-abbrev pub left_place : List StoredTable → ℕ
-left_place [] = 0
-left_place (table ∷ tables) = if has_left table then 0 else suc (left_place tables)
+abbrev pub unfilled_place : List StoredTable → ℕ
+unfilled_place [] = 0
+unfilled_place (table ∷ tables) = if has_unfilled table then 0 else suc (unfilled_place tables)
 
 -- The values of a row after it was filled. (Without a pair there is nothing to fill.)
 abbrev pub filled_values : Option Pair → List Value → Result (List Value) EvalFault

@@ -1,7 +1,7 @@
 -- What the engine stores, and what that means as a state of the machine.
 --
--- The engine keeps a frame, which is a state without its rows, and per table its stored rows in ascending key. While one version has the tables and no step of tidying is left, a stored row is the version's row. From START on a table that both versions have keeps its rows by the pair's layout: the old columns, the shadow places, the mark. COMPLETE takes the old version away and leaves the rows; the second step of tidying takes the old columns that are lost and the mark, the third one orders the places. So a row is stored once, whatever number of versions stand, and each version's view selects its half.
-use Rattle.std.specs.Prelude.{◌≡◌, ℕ, suc, ◌==◌, ℤ, true, List, [], ◌∷◌, Option, Some, None, length, map, sum_by, if◌then◌else◌}
+-- The engine keeps a frame, which is a state without its rows, and per table its stored rows in ascending key. While one version has the tables and no step of completing is left, a stored row is the version's row. From START on a table that both versions have keeps its rows by the pair's layout: the old columns, the shadow places, the mark. The first step of completing takes the old version away and leaves the rows; the second takes the old columns that are lost, and the mark; the third orders the places. So a row is stored once, whatever number of versions stand, and each version's view selects its half.
+use Rattle.std.specs.Prelude.{◌≡◌, ℕ, suc, ◌==◌, ℤ, List, [], ◌∷◌, Option, Some, None, length, map, sum_by, if◌then◌else◌}
 use Rattle.std.specs.List.{AllByRecursion}
 use Rattle.std.specs.Option.{option_map}
 use Rattle.std.specs.Ordering.{int_cmp, match_ordering}
@@ -17,8 +17,9 @@ use Rattle.machine.specs.Standing.{Ascends, IsState}
 use Rattle.machine.specs.State.{Shared, shape_of, shared}
 use Rattle.trigger_pair.specs.declared.pairs.Pair.{Pair}
 use Rattle.trigger_pair.specs.Laws.{IsPair}
-use Rattle.trigger_pair.specs.Stored.{begun, is_marked, new_half, new_view, old_view}
-use Rattle.phase_steps.specs.Rows.{trimmed_view}
+use Rattle.trigger_pair.specs.Rows.{IsFilledRow, IsPairedRow}
+use Rattle.trigger_pair.specs.Stored.{new_half, new_view, old_view}
+use Rattle.phase_steps.specs.Rows.{IsTrimmedRow, trimmed_view}
 use Rattle.roll_core.specs.declared.phases.Phase.{Phase}
 use Rattle.roll_core.specs.declared.phases.Phase.TheVariants.{Alone, Paired, Leaving, Trimmed}
 use Rattle.roll_core.specs.declared.store.StoredRow.{StoredRow}
@@ -70,7 +71,7 @@ pair_over both = record {
 }
 
 -- A table whose pair was left behind by the version that is gone: the standing version has its new shape.
-pub record IsLeft (frame : State) (table : StoredTable) : Type 0 where
+pub record HasFormerPair (frame : State) (table : StoredTable) : Type 0 where
   pub pair : Pair
   pub has : table.pair ≡ Some pair
   pub is_pair : IsPair pair
@@ -80,19 +81,14 @@ pub record IsLeft (frame : State) (table : StoredTable) : Type 0 where
 abbrev pub HasPair : Phase → State → StoredTable → Type 0
 HasPair Alone frame table = table.pair ≡ None
 HasPair Paired frame table = table.pair ≡ option_map pair_over (shared frame table.number)
-HasPair Leaving frame table = IsLeft frame table
-HasPair Trimmed frame table = IsLeft frame table
+HasPair Leaving frame table = HasFormerPair frame table
+HasPair Trimmed frame table = HasFormerPair frame table
 
--- A row by the pair's layout has a value for each place; one that is still to be filled is what START left.
-abbrev pub IsLong : Pair → List Value → Type 0
-IsLong pair values = length values ≡ length pair.layout.columns
-
-abbrev pub IsBegun : Pair → List Value → Type 0
-IsBegun pair values = is_marked pair values ≡ true → values ≡ begun pair (old_view pair values)
-
+-- Which rows are stored in a phase. While both versions stand a row is filled, or as START left it. Then each is filled, until the second step leaves of it what the standing version shows. One version alone stores just its rows, and these fit its shape (`IsState`).
 abbrev pub IsStoredRow : Phase → Option Pair → StoredRow → Type 0
-IsStoredRow Paired (Some pair) row = IsLong pair row.values × IsBegun pair row.values
-IsStoredRow Leaving (Some pair) row = IsLong pair row.values
+IsStoredRow Paired (Some pair) row = IsPairedRow pair row.values
+IsStoredRow Leaving (Some pair) row = IsFilledRow pair row.values
+IsStoredRow Trimmed (Some pair) row = IsTrimmedRow pair row.values
 IsStoredRow _ _ row = Unit {0}
 
 pub record IsStoredTable (frame : State) (table : StoredTable) : Type 0 where

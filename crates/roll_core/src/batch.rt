@@ -11,7 +11,7 @@ ghost use Rattle.roll_core.specs.Engine as engine;
 ghost use Rattle.roll_core.specs.Filling as spec;
 ghost use Rattle.roll_core.specs.Store as model;
 
-use crate::filling::{filled_rows, left_place};
+use crate::filling::{filled_rows, unfilled_place};
 use crate::insert::has_uniques;
 use crate::phases::phase_of;
 use crate::places::replace;
@@ -137,7 +137,7 @@ fn batch(
     ensures stored { model.AreStored frame.now tables.new }
 {
     trigger_pair::laws::writes_hold();
-    trigger_pair::laws::filled_rows_hold();
+    trigger_pair::laws::stored_rows_are_paired();
     let name = &both.new.0;
     let filled = match filled_rows(alloc, frame, &tables[at], n) {
         Ok(filled) => filled,
@@ -165,7 +165,7 @@ fn least_batch(
     ensures answers { engine.Answers (model.meaning frame.now tables.old) (as_outcome (migrate.least_fill (model.meaning frame.now tables.old) n)) result (model.meaning frame.now tables.new) }
     ensures stored { model.AreStored frame.now tables.new }
 {
-    let at = left_place(tables);
+    let at = unfilled_place(tables);
     if at == tables.len() {
         return Ok(Reply::Filled);
     }

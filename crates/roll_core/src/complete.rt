@@ -35,6 +35,7 @@ fn finish(alloc: Global, frame: &mut State, tables: &[StoredTable]) -> Result<Re
     ensures answers { engine.Answers (model.meaning frame.old tables.now) (migrate.complete (model.meaning frame.old tables.now)) result (model.meaning frame.new tables.now) }
     ensures stored { model.AreStored frame.new tables.now }
 {
+    trigger_pair::laws::paired_rows_are_long();
     let s = meaning(alloc, frame, tables)?;
     match machine_complete(alloc, &s)? {
         Ok((reply, t)) => {
@@ -152,7 +153,9 @@ fn tidied(
     ensures answers { engine.Answers (model.meaning frame.old tables.old.items) (migrate.complete (model.meaning frame.old tables.old.items)) result (model.meaning frame.new tables.new.items) }
     ensures stored { model.AreStored frame.new tables.new.items }
 {
+    trigger_pair::laws::paired_rows_are_long();
     phase_steps::laws::completing_changes_no_view();
+    phase_steps::laws::rows_are_stored_by_the_step();
     if frame.left == 2 {
         *tables = trimmed_tables(alloc, tables)?;
         frame.left = 1;

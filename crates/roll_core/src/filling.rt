@@ -16,8 +16,8 @@ use trigger_pair::{Pair, fill, is_marked};
 // ---- which rows it takes
 
 /// Whether a row is still to be filled.
-fn is_left(pair: &Option<Pair>, row: &StoredRow) -> bool
-    ensures { result ≡ spec.is_left pair.now row.now }
+fn is_unfilled(pair: &Option<Pair>, row: &StoredRow) -> bool
+    ensures { result ≡ spec.is_unfilled pair.now row.now }
 {
     match pair {
         Some(pair) => is_marked(pair, row.values.as_slice()),
@@ -25,11 +25,11 @@ fn is_left(pair: &Option<Pair>, row: &StoredRow) -> bool
     }
 }
 
-fn has_left(table: &StoredTable) -> bool
-    ensures { result ≡ spec.has_left table.now }
+fn has_unfilled(table: &StoredTable) -> bool
+    ensures { result ≡ spec.has_unfilled table.now }
 {
     for row in table.rows.as_slice() {
-        if is_left(&table.pair, row) {
+        if is_unfilled(&table.pair, row) {
             return true;
         }
     }
@@ -37,11 +37,11 @@ fn has_left(table: &StoredTable) -> bool
 }
 
 /// The place of the first table that has a row to be filled, or the number of tables.
-pub fn left_place(tables: &[StoredTable]) -> usize
-    ensures { result ≡ spec.left_place tables.now }
+pub fn unfilled_place(tables: &[StoredTable]) -> usize
+    ensures { result ≡ spec.unfilled_place tables.now }
 {
     for (at, table) in tables.iter().enumerate() {
-        if has_left(table) {
+        if has_unfilled(table) {
             return at;
         }
     }
@@ -96,14 +96,14 @@ pub fn filled_rows(
     table: &StoredTable,
     n: u32,
 ) -> Result<List<StoredRow>, Stop<Cause>>
-    ensures { stops.Answers (every (map (spec.filled_stored frame.now table.now) (take n (spec.rows_left table.now)))) result }
+    ensures { stops.Answers (every (map (spec.filled_stored frame.now table.now) (take n (spec.unfilled_rows table.now)))) result }
 {
     let mut filled = List::new(alloc);
     for row in table.rows.as_slice() {
         if filled.len() == n as usize {
             break;
         }
-        if is_left(&table.pair, row) {
+        if is_unfilled(&table.pair, row) {
             filled.push(filled_row(alloc, frame, table, row)?)?;
         }
     }

@@ -156,8 +156,10 @@ fn write(
     ensures stored { model.AreStored frame.now tables.new }
 {
     trigger_pair::laws::writes_hold();
+    trigger_pair::laws::stored_rows_are_paired();
     phase_steps::laws::leaving_rows_show_what_was_written();
     phase_steps::laws::completing_changes_no_view();
+    phase_steps::laws::rows_are_stored_by_the_step();
     let at = table_place(tables, found.table.1);
     match new_row(alloc, frame, found, &tables[at].pair, values) {
         Ok(row) => write_row(alloc, frame, tables, found, at, row),

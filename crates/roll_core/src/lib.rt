@@ -25,6 +25,3 @@ pub use commands::Cmd;
 pub use engine::Core;
 pub use insert::MAX_ROWS;
 pub use select::MAX_REPLY;
-
-#[cfg(test)]
-mod tests;

@@ -101,6 +101,7 @@ fn select_from(
     ensures { engine.Answers (model.meaning frame.now tables.now) (statement.select_from (model.meaning frame.now tables.now) items.now (plain.found found.entry)) result (model.meaning frame.now tables.now) }
 {
     trigger_pair::laws::begun_rows_hold();
+    trigger_pair::laws::paired_rows_are_long();
     if let Some(fault) = untyped_items(alloc, &found.table.2, items)? {
         return Err(Stop::Because(untyped(fault)));
     }

@@ -105,6 +105,7 @@ pub fn start(
     ensures stored { model.AreStored frame.new tables.new.items }
 {
     trigger_pair::laws::begun_rows_hold();
+    trigger_pair::laws::stored_rows_are_paired();
     let s = meaning(alloc, frame, tables)?;
     let (reply, t) = machine_start(alloc, &s, asked)?;
     let new = frame_of(alloc, t);

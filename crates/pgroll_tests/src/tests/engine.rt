@@ -1,5 +1,5 @@
 // What the engine answers by calls: through paths, and beyond what a short input can say.
-use crate::tests::statements::{Said, VERSION, Wanted, comes_to, reply_to};
+use crate::tests::statements::{NULL, Said, VERSION, Wanted, comes_to, reply_to};
 use roll_core::Core;
 use sql_base::{Code, Copying, NoMemory};
 use std::alloc::Global;
@@ -13,114 +13,290 @@ const OTHER: &str = "INSERT INTO users (id, name) VALUES (1, 'b')";
 
 const MINUS: &str = "INSERT INTO users (id, name) VALUES (-2, '')";
 
+const TWO: &str = "INSERT INTO users (id, name, n) VALUES (2, 'c', 'n')";
+
+const THREE: &str = "INSERT INTO users (id, name, n) VALUES (3, 'd', 'm')";
+
+const ADDED: &str = "SELECT id, n FROM users";
+
 const PATH: &[&str] = &[VERSION];
+
+const NEW: &[&str] = &["public_02"];
 
 const COLUMNS: &[&str] = &["id", "name"];
 
 const NOWHERE: Wanted = Wanted::Refused(Code::C42P01, Some("nowhere"), None);
 
-const NO_TABLE: Wanted = Wanted::Refused(Code::C42P01, Some("users"), None);
+/// What a version shows that doesn't stand.
+pub const NO_TABLE: Wanted = Wanted::Refused(Code::C42P01, Some("users"), None);
 
 const SYNTAX: Wanted = Wanted::Refused(Code::C42601, None, None);
 
-/// Rows of the table, by key and text.
-pub type Rows = &'static [(i64, &'static str)];
-
-/// What is said, what it has to come to, and the rows that there are then.
-pub type Row = (Said, Wanted, Rows);
+/// What is said, what it has to come to, and what the old version and the new one show of the table then.
+pub type Row = (Said, Wanted, Wanted, Wanted);
 
 /// A session, in its order.
 pub const SESSION: &[Row] = &[
     // The path: the first version that stands is taken, and names that no version has are passed by.
-    (Said::Line(PATH, ALL), Wanted::Shown(&[]), &[]),
-    (Said::Numbers, Wanted::Shown(&[]), &[]),
+    (
+        Said::Line(PATH, ALL),
+        Wanted::Shown(&[]),
+        Wanted::Shown(&[]),
+        NO_TABLE,
+    ),
+    (
+        Said::Numbers,
+        Wanted::Shown(&[]),
+        Wanted::Shown(&[]),
+        NO_TABLE,
+    ),
     (
         Said::Line(&["public_02_users", VERSION], ALL),
         Wanted::Shown(&[]),
-        &[],
+        Wanted::Shown(&[]),
+        NO_TABLE,
     ),
-    (Said::Line(&["public_02_users"], ALL), NO_TABLE, &[]),
-    (Said::Line(&["01_users"], ALL), NO_TABLE, &[]),
-    (Said::Line(&["users"], ONE), NO_TABLE, &[]),
-    (Said::Line(&[], ONE), NO_TABLE, &[]),
+    (
+        Said::Line(&["public_02_users"], ALL),
+        NO_TABLE,
+        Wanted::Shown(&[]),
+        NO_TABLE,
+    ),
+    (
+        Said::Line(&["01_users"], ALL),
+        NO_TABLE,
+        Wanted::Shown(&[]),
+        NO_TABLE,
+    ),
+    (
+        Said::Line(&["users"], ONE),
+        NO_TABLE,
+        Wanted::Shown(&[]),
+        NO_TABLE,
+    ),
+    (Said::Line(&[], ONE), NO_TABLE, Wanted::Shown(&[]), NO_TABLE),
     // The form, and which refusal comes first.
-    (Said::Row("nowhere", COLUMNS, 1), NOWHERE, &[]),
-    (Said::Row("nowhere", COLUMNS, 4_085), NOWHERE, &[]),
-    (Said::Row("users", &["name", "id"], 1), SYNTAX, &[]),
-    (Said::Row("users", &["id"], 4_085), SYNTAX, &[]),
+    (
+        Said::Row("nowhere", COLUMNS, 1),
+        NOWHERE,
+        Wanted::Shown(&[]),
+        NO_TABLE,
+    ),
+    (
+        Said::Row("nowhere", COLUMNS, 4_085),
+        NOWHERE,
+        Wanted::Shown(&[]),
+        NO_TABLE,
+    ),
+    (
+        Said::Row("users", &["name", "id"], 1),
+        SYNTAX,
+        Wanted::Shown(&[]),
+        NO_TABLE,
+    ),
+    (
+        Said::Row("users", &["id"], 4_085),
+        SYNTAX,
+        Wanted::Shown(&[]),
+        NO_TABLE,
+    ),
     (
         Said::Row("users", COLUMNS, 4_085),
         Wanted::Refused(Code::C54000, Some("row"), Some(7)),
-        &[],
+        Wanted::Shown(&[]),
+        NO_TABLE,
     ),
     // A key stands once, and rows are shown in ascending key.
-    (Said::Line(PATH, ONE), Wanted::Written, &[(1, "a")]),
+    (
+        Said::Line(PATH, ONE),
+        Wanted::Written,
+        Wanted::Shown(&[(1, "a")]),
+        NO_TABLE,
+    ),
     (
         Said::Line(PATH, OTHER),
         Wanted::Refused(Code::C23505, Some("users_pkey"), Some(1)),
-        &[(1, "a")],
+        Wanted::Shown(&[(1, "a")]),
+        NO_TABLE,
     ),
     (
         Said::Line(&["public_02_users", VERSION], MINUS),
         Wanted::Written,
-        &[(-2, ""), (1, "a")],
+        Wanted::Shown(&[(-2, ""), (1, "a")]),
+        NO_TABLE,
     ),
     (
         Said::Line(PATH, ALL),
         Wanted::Shown(&[(-2, ""), (1, "a")]),
-        &[(-2, ""), (1, "a")],
+        Wanted::Shown(&[(-2, ""), (1, "a")]),
+        NO_TABLE,
     ),
     (
         Said::Row("users", COLUMNS, 2),
         Wanted::Written,
-        &[(-2, ""), (1, "a"), (7, "xx")],
+        Wanted::Shown(&[(-2, ""), (1, "a"), (7, "xx")]),
+        NO_TABLE,
     ),
     // Listed items: each has a type before any row is looked at; a fault tells its row.
     (
         Said::Columns(COLUMNS),
         Wanted::Shown(&[(-2, ""), (1, "a"), (7, "xx")]),
-        &[(-2, ""), (1, "a"), (7, "xx")],
+        Wanted::Shown(&[(-2, ""), (1, "a"), (7, "xx")]),
+        NO_TABLE,
     ),
     (
         Said::Columns(&["id", "age"]),
         Wanted::Refused(Code::C42703, Some("age"), None),
-        &[(-2, ""), (1, "a"), (7, "xx")],
+        Wanted::Shown(&[(-2, ""), (1, "a"), (7, "xx")]),
+        NO_TABLE,
     ),
     (
         Said::Numbers,
         Wanted::Refused(Code::C22P02, None, Some(-2)),
-        &[(-2, ""), (1, "a"), (7, "xx")],
+        Wanted::Shown(&[(-2, ""), (1, "a"), (7, "xx")]),
+        NO_TABLE,
     ),
     // A path is set without a look at its names.
     (
         Said::Path(&["public_02_users"]),
         Wanted::Set,
-        &[(-2, ""), (1, "a"), (7, "xx")],
+        Wanted::Shown(&[(-2, ""), (1, "a"), (7, "xx")]),
+        NO_TABLE,
     ),
     // A present key of a row that is too heavy.
     (
         Said::Row("users", COLUMNS, 4_085),
         Wanted::Refused(Code::C54000, Some("row"), Some(7)),
-        &[(-2, ""), (1, "a"), (7, "xx")],
+        Wanted::Shown(&[(-2, ""), (1, "a"), (7, "xx")]),
+        NO_TABLE,
     ),
 ];
 
-/// Whether the table has these rows.
-pub fn has_rows(alloc: Global, core: &mut Core, rows: Rows) -> Result<bool, NoMemory> {
-    let reply = reply_to(alloc, core, Said::Line(PATH, ALL))?;
-    Ok(comes_to(&reply, Wanted::Shown(rows)))
+/// The start of a migration that adds a column: rows are begun, and both versions write.
+pub const START: &[Row] = &[
+    (
+        Said::Line(PATH, OTHER),
+        Wanted::Written,
+        Wanted::Shown(&[(1, "b")]),
+        NO_TABLE,
+    ),
+    (
+        Said::Start,
+        Wanted::Started,
+        Wanted::Shown(&[(1, "b")]),
+        Wanted::Shown(&[(1, NULL)]),
+    ),
+    (
+        Said::Line(PATH, MINUS),
+        Wanted::Written,
+        Wanted::Shown(&[(-2, ""), (1, "b")]),
+        Wanted::Shown(&[(-2, ""), (1, NULL)]),
+    ),
+    (
+        Said::Line(NEW, TWO),
+        Wanted::Written,
+        Wanted::Shown(&[(-2, ""), (1, "b"), (2, "c")]),
+        Wanted::Shown(&[(-2, ""), (1, NULL), (2, "n")]),
+    ),
+];
+
+/// Its backfill, without which it can't be completed.
+pub const FILL: &[Row] = &[
+    (
+        Said::Line(PATH, OTHER),
+        Wanted::Written,
+        Wanted::Shown(&[(1, "b")]),
+        NO_TABLE,
+    ),
+    (
+        Said::Start,
+        Wanted::Started,
+        Wanted::Shown(&[(1, "b")]),
+        Wanted::Shown(&[(1, NULL)]),
+    ),
+    (
+        Said::Complete,
+        Wanted::NotFilled,
+        Wanted::Shown(&[(1, "b")]),
+        Wanted::Shown(&[(1, NULL)]),
+    ),
+    (
+        Said::Batch,
+        Wanted::Filled(1),
+        Wanted::Shown(&[(1, "b")]),
+        Wanted::Shown(&[(1, "b")]),
+    ),
+    (
+        Said::Batch,
+        Wanted::Filled(0),
+        Wanted::Shown(&[(1, "b")]),
+        Wanted::Shown(&[(1, "b")]),
+    ),
+];
+
+/// Its completion, between whose steps the new version writes.
+pub const COMPLETION: &[Row] = &[
+    (
+        Said::Start,
+        Wanted::Started,
+        Wanted::Shown(&[]),
+        Wanted::Shown(&[]),
+    ),
+    (
+        Said::Line(PATH, OTHER),
+        Wanted::Written,
+        Wanted::Shown(&[(1, "b")]),
+        Wanted::Shown(&[(1, "b")]),
+    ),
+    (
+        Said::Complete,
+        Wanted::Completed(1),
+        NO_TABLE,
+        Wanted::Shown(&[(1, "b")]),
+    ),
+    (
+        Said::Line(NEW, TWO),
+        Wanted::Written,
+        NO_TABLE,
+        Wanted::Shown(&[(1, "b"), (2, "n")]),
+    ),
+    (
+        Said::Complete,
+        Wanted::Completed(2),
+        NO_TABLE,
+        Wanted::Shown(&[(1, "b"), (2, "n")]),
+    ),
+    (
+        Said::Line(NEW, THREE),
+        Wanted::Written,
+        NO_TABLE,
+        Wanted::Shown(&[(1, "b"), (2, "n"), (3, "m")]),
+    ),
+    (
+        Said::Complete,
+        Wanted::Completed(3),
+        NO_TABLE,
+        Wanted::Shown(&[(1, "b"), (2, "n"), (3, "m")]),
+    ),
+];
+
+/// Whether the two versions show this of the table.
+pub fn shows(alloc: Global, core: &mut Core, old: Wanted, new: Wanted) -> Result<bool, NoMemory> {
+    let by_old = reply_to(alloc, core, Said::Line(PATH, ALL))?;
+    let by_new = reply_to(alloc, core, Said::Line(NEW, ADDED))?;
+    Ok(comes_to(&by_old, old) && comes_to(&by_new, new))
 }
 
 // Whether what is said comes to what it has to, and leaves those rows.
 fn is_answered(alloc: Global, core: &mut Core, row: &Row) -> Result<bool, NoMemory> {
     let reply = reply_to(alloc, core, row.0)?.copy(alloc)?;
-    Ok(comes_to(&reply, row.1) && has_rows(alloc, core, row.2)?)
+    Ok(comes_to(&reply, row.1) && shows(alloc, core, row.2, row.3)?)
 }
 
 // The place of the first that isn't.
-fn first_wrong(alloc: Global) -> Result<Option<usize>, NoMemory> {
+fn first_wrong(alloc: Global, session: &[Row]) -> Result<Option<usize>, NoMemory> {
     let mut core = Core::fixed(alloc)?;
-    for (at, row) in SESSION.iter().enumerate() {
+    for (at, row) in session.iter().enumerate() {
         if !is_answered(alloc, &mut core, row)? {
             return Ok(Some(at));
         }
@@ -130,6 +306,14 @@ fn first_wrong(alloc: Global) -> Result<Option<usize>, NoMemory> {
 
 #[test]
 fn statements_are_answered_and_refused(rt: HostRuntime) -> Result<(), Fail> {
-    assert_eq!(rt; first_wrong(rt.alloc())?, None);
+    assert_eq!(rt; first_wrong(rt.alloc(), SESSION)?, None);
+    Ok(())
+}
+
+#[test]
+fn a_migration_is_lived_through(rt: HostRuntime) -> Result<(), Fail> {
+    assert_eq!(rt; first_wrong(rt.alloc(), START)?, None);
+    assert_eq!(rt; first_wrong(rt.alloc(), FILL)?, None);
+    assert_eq!(rt; first_wrong(rt.alloc(), COMPLETION)?, None);
     Ok(())
 }

@@ -1,6 +1,7 @@
 // Statements of a test, what they have to come to, and whether a reply is that.
-use machine::Reply;
-use roll_core::Core;
+use machine::{Asked, Reply};
+use mig_lens::{ColumnDef, Migration, Op, Refusal};
+use roll_core::{Cmd, Core};
 use sql_base::{Code, Expr, Items, List, Name, NoMemory, SqlText, Stmt, Ty, Value};
 use sqlite_items::Boxed;
 use std::alloc::Global;
@@ -20,6 +21,12 @@ pub enum Said {
     Path(&'static [&'static str]),
     /// An INSERT into a table, with these names of columns, of the row with the key 7 and a text of so many bytes.
     Row(&'static str, &'static [&'static str], usize),
+    /// The start of the migration `02`, which adds a text column `n` made of the name.
+    Start,
+    /// A batch of at most two rows.
+    Batch,
+    /// A step of completing.
+    Complete,
 }
 
 /// What it has to come to.
@@ -35,7 +42,18 @@ pub enum Wanted {
     Refused(Code, Option<&'static str>, Option<i64>),
     /// Memory is wanting.
     NoMemory,
+    /// The migration is started.
+    Started,
+    /// So many rows of `users` are filled, or none is left where it is none.
+    Filled(u32),
+    /// This step of completing is done.
+    Completed(u8),
+    /// It isn't completed, since a row is still to be filled: that of the key 1.
+    NotFilled,
 }
+
+/// How a NULL is written here in place of a text.
+pub const NULL: &str = "\\N";
 
 /// A path of these versions, or another list of names.
 pub fn names_of(alloc: Global, words: &[&str]) -> Result<Vec<Name>, NoMemory> {
@@ -131,6 +149,33 @@ fn set_path(alloc: Global, core: &mut Core, words: &[&str]) -> Result<Option<Rep
     Ok(Some(core.statement(&path, &stmt)))
 }
 
+fn added(alloc: Global) -> Result<Migration, NoMemory> {
+    let column = ColumnDef {
+        name: Name::from_slice(alloc, b"n")?,
+        ty: Ty::Text,
+        nullable: true,
+        pk: false,
+        unique: false,
+        default: Value::Null,
+        check: None,
+    };
+    let mut operations = List::new(alloc);
+    operations.push(Op::AddColumn {
+        table: Name::from_slice(alloc, b"users")?,
+        column,
+        up: Some(Expr::Col(Name::from_slice(alloc, b"name")?)),
+    })?;
+    Ok(Migration {
+        name: Name::from_slice(alloc, b"02")?,
+        operations,
+    })
+}
+
+fn start(alloc: Global, core: &mut Core) -> Result<Option<Reply>, NoMemory> {
+    let asked = Asked::Read(added(alloc)?);
+    Ok(Some(core.ddl(&Cmd::Start(asked))?))
+}
+
 /// The reply to what is said, or nothing where it reads as no statement.
 pub fn reply_to(alloc: Global, core: &mut Core, said: Said) -> Result<Option<Reply>, NoMemory> {
     match said {
@@ -139,6 +184,9 @@ pub fn reply_to(alloc: Global, core: &mut Core, said: Said) -> Result<Option<Rep
         Said::Numbers => numbers(alloc, core),
         Said::Path(words) => set_path(alloc, core, words),
         Said::Row(table, columns, length) => row(alloc, core, table, columns, length),
+        Said::Start => start(alloc, core),
+        Said::Batch => Ok(Some(core.batch(2))),
+        Said::Complete => Ok(Some(core.ddl(&Cmd::Complete)?)),
     }
 }
 
@@ -153,6 +201,7 @@ fn is_about(name: &Option<Name>, about: Option<&str>) -> bool {
 fn is_row(row: &[Value], wanted: (i64, &str)) -> bool {
     match row {
         [Value::Int(key), Value::Text(text)] => *key == wanted.0 && text.as_str() == wanted.1,
+        [Value::Int(key), Value::Null] => *key == wanted.0 && wanted.1 == NULL,
         _ => false,
     }
 }
@@ -177,6 +226,13 @@ pub fn is_wanted(reply: &Reply, wanted: Wanted) -> bool {
         (Reply::Select(rows), Wanted::Shown(wanted)) => are_rows(rows.as_slice(), wanted),
         (Reply::Error { code, name, key }, Wanted::Refused(wanted, about, at)) => {
             *code == wanted && is_about(name, about) && *key == at
+        }
+        (Reply::Start(name), Wanted::Started) => name.as_slice() == b"02".as_slice(),
+        (Reply::Fill { count, .. }, Wanted::Filled(wanted)) => *count == wanted,
+        (Reply::Filled, Wanted::Filled(wanted)) => wanted == 0,
+        (Reply::Complete(step), Wanted::Completed(wanted)) => *step == wanted,
+        (Reply::Refused(Refusal::NotFilled(table, key)), Wanted::NotFilled) => {
+            table.as_slice() == b"users".as_slice() && *key == 1
         }
         (Reply::Error { code, name, key }, Wanted::NoMemory) => {
             *code == Code::C53200 && name.is_none() && key.is_none()

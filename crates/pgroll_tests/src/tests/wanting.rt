@@ -1,83 +1,157 @@
 // What is answered where one allocation is refused, whichever it is: want of memory, with all as it was. These tests
-// pass with ample memory too; `rt try --test --fail-alloc N` runs them with the allocation of number N refused.
+// pass with ample memory too; `rt try --test --fail-alloc N` runs them with the allocation of number N refused in each.
 use crate::tests::calls::{Told, call};
-use crate::tests::engine::{Row, Rows, SESSION, has_rows};
+use crate::tests::engine::{COMPLETION, FILL, NO_TABLE, Row, SESSION, START, shows};
 use crate::tests::statements::{Wanted, comes_to, reply_to};
 use roll_core::Core;
 use sql_base::NoMemory;
 use std::alloc::Global;
 
-const INPUT: &str =
-    "INSERT INTO users (id, name) VALUES (1, 'a')\nINSERT INTO users (id, name) VALUES (1, 'b')\nSELECT * FROM users\n";
+// ---- calls
 
-/// The output where no line finds memory wanting, or just one of them.
-const DONE: [&str; 4] = [
+/// An input, its output with ample memory, and the outputs where memory is wanting for one of its statements.
+type Call = (&'static str, &'static str, &'static [&'static str]);
+
+const STATEMENTS: Call = (
+    "INSERT INTO users (id, name) VALUES (1, 'a')\nINSERT INTO users (id, name) VALUES (1, 'b')\nSELECT * FROM users\n",
     "1 main INSERT 0 1\n2 main ERROR 23505 users_pkey 1\n3 main SELECT 1\n  1|a\n",
-    "1 main ERROR 53200 - -\n2 main INSERT 0 1\n3 main SELECT 1\n  1|b\n",
-    "1 main INSERT 0 1\n2 main ERROR 53200 - -\n3 main SELECT 1\n  1|a\n",
-    "1 main INSERT 0 1\n2 main ERROR 23505 users_pkey 1\n3 main ERROR 53200 - -\n",
-];
+    &[
+        "1 main ERROR 53200 - -\n2 main INSERT 0 1\n3 main SELECT 1\n  1|b\n",
+        "1 main INSERT 0 1\n2 main ERROR 53200 - -\n3 main SELECT 1\n  1|a\n",
+        "1 main INSERT 0 1\n2 main ERROR 23505 users_pkey 1\n3 main ERROR 53200 - -\n",
+    ],
+);
 
-/// The output where memory is wanting outside a statement.
-const STOPPED: [&str; 4] = [
-    "0 control ERROR memory\n",
-    "1 main INSERT 0 1\n0 control ERROR memory\n",
-    "1 main INSERT 0 1\n2 main ERROR 23505 users_pkey 1\n0 control ERROR memory\n",
-    "1 main INSERT 0 1\n2 main ERROR 23505 users_pkey 1\n3 main SELECT 1\n  1|a\n0 control ERROR memory\n",
-];
+const BOTH_VERSIONS: Call = (
+    "\\start {\"name\":\"02\",\"operations\":[{\"add_column\":{\"table\":\"users\",\"column\":{\"name\":\"n\",\"type\":\"text\",\"nullable\":true},\"up\":\"name\"}}]}\nINSERT INTO users (id, name) VALUES (1, 'a')\nSET search_path TO public_02\nSELECT n FROM users\n",
+    "1 control START public_02\n2 main INSERT 0 1\n3 main SET\n4 main SELECT 1\n  a\n",
+    &[
+        "1 control START public_02\n2 main ERROR 53200 - -\n3 main SET\n4 main SELECT 0\n",
+        "1 control START public_02\n2 main INSERT 0 1\n3 main ERROR 53200 - -\n4 main ERROR 42703 n -\n",
+        "1 control START public_02\n2 main INSERT 0 1\n3 main SET\n4 main ERROR 53200 - -\n",
+    ],
+);
 
-fn is_one_of(output: &[u8], wanted: &[&str]) -> bool {
-    wanted.iter().any(|text| output == text.as_bytes())
+const FILLED: Call = (
+    "INSERT INTO users (id, name) VALUES (1, 'a')\n\\start {\"name\":\"02\",\"operations\":[{\"add_column\":{\"table\":\"users\",\"column\":{\"name\":\"n\",\"type\":\"text\",\"nullable\":true},\"up\":\"name\"}}]}\n\\fill\n\\complete\n",
+    "1 main INSERT 0 1\n2 control START public_02\n3 control FILL users 1 1 1\n4 control FILLED\n5 control COMPLETE 1\n6 control COMPLETE 2\n7 control COMPLETE 3\n",
+    &[
+        "1 main ERROR 53200 - -\n2 control START public_02\n3 control FILLED\n4 control COMPLETE 1\n5 control COMPLETE 2\n6 control COMPLETE 3\n",
+    ],
+);
+
+const MEMORY: &str = "0 control ERROR memory\n";
+
+// Whether the output is whole lines of the one with ample memory, and then that memory was wanting.
+fn is_stopped(output: &[u8], ample: &[u8]) -> bool {
+    if output.len() < MEMORY.len() {
+        return false;
+    }
+    let (told, last) = output.split_at(output.len() - MEMORY.len());
+    let whole = match told.last() {
+        Some(byte) => *byte == b'\n',
+        None => true,
+    };
+    whole && ample.starts_with(told) && last == MEMORY.as_bytes()
 }
 
 // Whether a call has all lines, or tells that memory was wanting.
-fn is_sound_call(told: &Told) -> bool {
+fn is_sound_call(told: &Told, wanted: &Call) -> bool {
+    let output = told.output.as_slice();
     match told.status {
-        0 => is_one_of(&told.output, &DONE),
-        6 => is_one_of(&told.output, &STOPPED),
+        0 => {
+            output == wanted.1.as_bytes() || wanted.2.iter().any(|text| output == text.as_bytes())
+        }
+        6 => is_stopped(output, wanted.1.as_bytes()),
         _ => false,
     }
 }
 
-#[test]
-fn a_call_tells_want_of_memory(rt: HostRuntime) {
-    // Where memory was wanting for the input itself, there is no call to look at.
-    if let Ok(told) = call(rt.alloc(), &["exec"], INPUT.as_bytes(), &[], &[]) {
-        assert!(rt; is_sound_call(&told), "status {}", told.status);
+// Whether the call does so; where memory was wanting for the input itself, there is no call to look at.
+fn tells(alloc: Global, wanted: &Call) -> bool {
+    match call(alloc, &["exec"], wanted.0.as_bytes(), &[], &[]) {
+        Ok(told) => is_sound_call(&told, wanted),
+        Err(_) => true,
     }
 }
 
-// Whether the table has these rows, and what is said again comes to what it has to.
-fn is_sound_again(alloc: Global, core: &mut Core, row: &Row, rows: Rows) -> Result<bool, NoMemory> {
-    let kept = has_rows(alloc, core, rows)?;
+#[test]
+fn statements_tell_want_of_memory(rt: HostRuntime) {
+    assert!(rt; tells(rt.alloc(), &STATEMENTS));
+}
+
+#[test]
+fn a_migration_tells_want_of_memory(rt: HostRuntime) {
+    assert!(rt; tells(rt.alloc(), &BOTH_VERSIONS));
+}
+
+#[test]
+fn a_completion_tells_want_of_memory(rt: HostRuntime) {
+    assert!(rt; tells(rt.alloc(), &FILLED));
+}
+
+// ---- the engine
+
+// What the two versions show of the table before what is said.
+type Shown = (Wanted, Wanted);
+
+// Whether the versions show this, and what is said again comes to what it has to.
+fn is_sound_again(
+    alloc: Global,
+    core: &mut Core,
+    row: &Row,
+    before: Shown,
+) -> Result<bool, NoMemory> {
+    let kept = shows(alloc, core, before.0, before.1)?;
     Ok(kept && comes_to(&reply_to(alloc, core, row.0)?, row.1))
 }
 
-// Whether what is said comes to what it has to; or to want of memory, and then the table has these rows still.
-fn is_sound(alloc: Global, core: &mut Core, row: &Row, rows: Rows) -> bool {
+// Whether what is said comes to what it has to; or to want of memory, and then the versions show what they did.
+fn is_sound(alloc: Global, core: &mut Core, row: &Row, before: Shown) -> bool {
     match reply_to(alloc, core, row.0) {
         Ok(reply) if !comes_to(&reply, Wanted::NoMemory) => comes_to(&reply, row.1),
-        _ => matches!(is_sound_again(alloc, core, row, rows), Ok(true)),
+        _ => matches!(is_sound_again(alloc, core, row, before), Ok(true)),
     }
 }
 
-// The place of the first that isn't.
-fn first_wrong(alloc: Global) -> Result<Option<usize>, NoMemory> {
+// The place of the first that isn't; at the end the versions show what they have to.
+fn first_wrong(alloc: Global, session: &[Row]) -> Result<Option<usize>, NoMemory> {
     let mut core = Core::fixed(alloc)?;
-    let mut rows: Rows = &[];
-    for (at, row) in SESSION.iter().enumerate() {
-        if !is_sound(alloc, &mut core, row, rows) {
+    let mut before = (Wanted::Shown(&[]), NO_TABLE);
+    for (at, row) in session.iter().enumerate() {
+        if !is_sound(alloc, &mut core, row, before) {
             return Ok(Some(at));
         }
-        rows = row.2;
+        before = (row.2, row.3);
     }
-    Ok(None)
+    let kept = shows(alloc, &mut core, before.0, before.1)?;
+    Ok(if kept { None } else { Some(session.len()) })
+}
+
+// Where memory was wanting for the engine itself, or for the last look at it, there is nothing to look at.
+fn none_wrong(alloc: Global, session: &[Row]) -> bool {
+    match first_wrong(alloc, session) {
+        Ok(wrong) => wrong.is_none(),
+        Err(_) => true,
+    }
 }
 
 #[test]
 fn the_engine_tells_want_of_memory(rt: HostRuntime) {
-    // Where memory was wanting for the engine itself, there is nothing to look at.
-    if let Ok(wrong) = first_wrong(rt.alloc()) {
-        assert_eq!(rt; wrong, None);
-    }
+    assert!(rt; none_wrong(rt.alloc(), SESSION));
+}
+
+#[test]
+fn its_start_tells_want_of_memory(rt: HostRuntime) {
+    assert!(rt; none_wrong(rt.alloc(), START));
+}
+
+#[test]
+fn its_batches_tell_want_of_memory(rt: HostRuntime) {
+    assert!(rt; none_wrong(rt.alloc(), FILL));
+}
+
+#[test]
+fn its_completion_tells_want_of_memory(rt: HostRuntime) {
+    assert!(rt; none_wrong(rt.alloc(), COMPLETION));
 }

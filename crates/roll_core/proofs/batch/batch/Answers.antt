@@ -5,7 +5,7 @@ use Rattle.machine.specs.Migrate.{batch_reply}
 use Rattle.machine.specs.Plain.{pair}
 use Rattle.machine.specs.State.{name_of}
 use Rattle.roll_core.specs.Filling as fill
-use Rattle.roll_core.specs.Filling.{filled_clash, filled_stored, rows_left}
+use Rattle.roll_core.specs.Filling.{filled_clash, filled_stored, unfilled_rows}
 use Rattle.roll_core.proofs.Batching.{batch_clash, batch_done, batch_fault, filled_are_stored, filled_fits, filled_has, taken_ascend, taken_at}
 use Rattle.roll_core.proofs.batch.batch.Goals as goal
 
@@ -14,7 +14,7 @@ returns-in-Err-Because-clause-answers c =
     let t = taken_at c.writes_hold.ensures.old c.args.frame.now c.args.tables.now (pair c.args.both) c.args.at c.requires.stored c.requires.filling in
     let d = c.index-tables-at.result in
     let table = slice_index_or c.args.tables.now c.args.at d in
-    let fault : every (map (filled_stored c.args.frame.now table) (take c.args.n (rows_left table))) ≡ Err c.in-Err-Because.cause = rw c.in-Err-Because.field-0-is at c.in-Err-Because.ensures in
+    let fault : every (map (filled_stored c.args.frame.now table) (take c.args.n (unfilled_rows table))) ≡ Err c.in-Err-Because.cause = rw c.in-Err-Because.field-0-is at c.in-Err-Because.ensures in
     (batch_fault c.args.frame.now c.args.tables.now (pair c.args.both) c.args.at c.args.n d c.in-Err-Because.cause c.in_ok-refused-in-Err-Because.field-0 c.requires.stored t fault c.in_ok-refused-in-Err-Because.ensures, refl)
 
 pub offset_bounds-tables-at-2 : goal.offset_bounds-tables-at-2
@@ -36,7 +36,7 @@ returns-in-Some-clause-answers c =
 pub batch_reply-requires : goal.batch_reply-requires
 batch_reply-requires c =
     let t = taken_at c.writes_hold.ensures.old c.args.frame.now c.args.tables.now (pair c.args.both) c.args.at c.requires.stored c.requires.filling in
-    let few : length c.in-Ok.filled ≤ c.args.n = filled_fits c.filled_rows_hold.ensures c.args.frame.now c.args.tables.now (pair c.args.both) c.args.at c.args.n c.index-tables-at.result c.in-Ok.filled t c.in-Ok.ensures in
+    let few : length c.in-Ok.filled ≤ c.args.n = filled_fits c.stored_rows_are_paired.ensures.filling c.args.frame.now c.args.tables.now (pair c.args.both) c.args.at c.args.n c.index-tables-at.result c.in-Ok.filled t c.in-Ok.ensures in
     let same = ap length c.as_slice-2.ensures in
     let fits = c.ranges.n.fits in
     omega (arith, few, same, fits)
@@ -58,7 +58,7 @@ replace_all-requires-clause-ascend c =
 pub replace_all-requires-clause-there : goal.replace_all-requires-clause-there
 replace_all-requires-clause-there c =
     let t = taken_at c.writes_hold.ensures.old c.args.frame.now c.args.tables.now (pair c.args.both) c.args.at c.requires.stored c.requires.filling in
-    filled_has c.filled_rows_hold.ensures c.args.frame.now c.args.tables.now (pair c.args.both) c.args.at c.args.n c.index-tables-at.result c.index-tables-at-3.result c.in-Ok.filled t c.in-Ok.ensures
+    filled_has c.stored_rows_are_paired.ensures.filling c.args.frame.now c.args.tables.now (pair c.args.both) c.args.at c.args.n c.index-tables-at.result c.index-tables-at-3.result c.in-Ok.filled t c.in-Ok.ensures
 
 pub returns-clause-answers : goal.returns-clause-answers
 returns-clause-answers c =
@@ -71,4 +71,4 @@ returns-clause-answers c =
 pub returns-clause-stored : goal.returns-clause-stored
 returns-clause-stored c =
     let t = taken_at c.writes_hold.ensures.old c.args.frame.now c.args.tables.now (pair c.args.both) c.args.at c.requires.stored c.requires.filling in
-    filled_are_stored c.filled_rows_hold.ensures c.args.frame.now c.args.tables.now (pair c.args.both) c.args.at c.args.n c.index-tables-at.result c.index-tables-at-3.result c.in-Ok.filled c.replace_all.new.rows c.requires.stored t c.in-Ok.ensures c.replace_all.ensures
+    filled_are_stored c.stored_rows_are_paired.ensures.filling c.args.frame.now c.args.tables.now (pair c.args.both) c.args.at c.args.n c.index-tables-at.result c.index-tables-at-3.result c.in-Ok.filled c.replace_all.new.rows c.requires.stored t c.in-Ok.ensures c.replace_all.ensures
