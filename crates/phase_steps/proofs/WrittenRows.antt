@@ -1,5 +1,5 @@
 -- Rows that are written between C1 and C2 show what was written.
-use Rattle.std.proofs.Common.{◌≡◌, ◌∙◌, ℕ, zero, suc, List, [], ◌∷◌, ◌++◌, Bool, true, false, ◌&&◌, Option, Some, None, length, map, ap, refl, sym, subst, arith}
+use Rattle.std.proofs.Common.{◌≡◌, ◌∙◌, ℕ, zero, suc, List, [], ◌∷◌, ◌++◌, true, false, Option, Some, None, length, map, ap, sym, subst, arith}
 use Rattle.std.specs.Prelude.{slice_get, slice_index_or}
 use Rattle.std.proofs.lemmas.Bool.Decides.{nat_tests}
 use Rattle.std.proofs.lemmas.List.{length-map}
@@ -11,7 +11,7 @@ use Rattle.mig_lens.specs.Layout.{has_mark}
 use Rattle.mig_lens.specs.Lens.{carries, is_carried_from}
 use Rattle.trigger_pair.specs.Laws.{Holds}
 use Rattle.trigger_pair.specs.Stored.{mark_value, shadow_values, stored_row}
-use Rattle.trigger_pair.proofs.Halves.{carry_carries, old_long, pair_long, pair_within, row_long}
+use Rattle.trigger_pair.proofs.Halves.{carry_carries, old_long, pair_long, pair_within, row_long, unmarked}
 use Rattle.trigger_pair.proofs.Places.{Agree, holds}
 use Rattle.phase_steps.specs.Laws.{LeavingRowsShow}
 use Rattle.phase_steps.specs.Rows.{leaving_row, leaving_value}
@@ -30,10 +30,6 @@ left_at : (cells : List Cell) (values : List Value) (at i : ℕ) → slice_get c
 left_at [] values at i e = cc
 left_at (cell ∷ cells) values zero i e = let same : cell ≡ Carry i = cc in ap (leaving_value values) same
 left_at (cell ∷ cells) values (suc at) i e = left_at cells values at i e
-
-unmarked : (mark : Bool) → (mark && false) ≡ false
-unmarked true = refl
-unmarked false = refl
 
 pub leaving_rows_show : LeavingRowsShow
 leaving_rows_show pair values p fit =
