@@ -17,6 +17,8 @@ const TWO: &str = "INSERT INTO users (id, name, n) VALUES (2, 'c', 'n')";
 
 const THREE: &str = "INSERT INTO users (id, name, n) VALUES (3, 'd', 'm')";
 
+const FOUR: &str = "INSERT INTO users (id, name, n) VALUES (4, 'e', 'l')";
+
 const ADDED: &str = "SELECT id, n FROM users";
 
 const PATH: &[&str] = &[VERSION];
@@ -35,8 +37,8 @@ const SYNTAX: Wanted = Wanted::Refused(Code::C42601, None, None);
 /// What is said, what it has to come to, and what the old version and the new one show of the table then.
 pub type Row = (Said, Wanted, Wanted, Wanted);
 
-/// A session, in its order.
-pub const SESSION: &[Row] = &[
+/// A session, in its order, that writes nothing.
+pub const REFUSED: &[Row] = &[
     // The path: the first version that stands is taken, and names that no version has are passed by.
     (
         Said::Line(PATH, ALL),
@@ -106,6 +108,10 @@ pub const SESSION: &[Row] = &[
         Wanted::Shown(&[]),
         NO_TABLE,
     ),
+];
+
+/// One that writes rows.
+pub const WRITTEN: &[Row] = &[
     // A key stands once, and rows are shown in ascending key.
     (
         Said::Line(PATH, ONE),
@@ -172,112 +178,134 @@ pub const SESSION: &[Row] = &[
     ),
 ];
 
-/// The start of a migration that adds a column: rows are begun, and both versions write.
-pub const START: &[Row] = &[
-    (
-        Said::Line(PATH, OTHER),
-        Wanted::Written,
-        Wanted::Shown(&[(1, "b")]),
-        NO_TABLE,
-    ),
-    (
-        Said::Start,
-        Wanted::Started,
-        Wanted::Shown(&[(1, "b")]),
-        Wanted::Shown(&[(1, NULL)]),
-    ),
-    (
-        Said::Line(PATH, MINUS),
-        Wanted::Written,
-        Wanted::Shown(&[(-2, ""), (1, "b")]),
-        Wanted::Shown(&[(-2, ""), (1, NULL)]),
-    ),
-    (
-        Said::Line(NEW, TWO),
-        Wanted::Written,
-        Wanted::Shown(&[(-2, ""), (1, "b"), (2, "c")]),
-        Wanted::Shown(&[(-2, ""), (1, NULL), (2, "n")]),
-    ),
-];
+const NONE: Wanted = Wanted::Shown(&[]);
 
-/// Its backfill, without which it can't be completed.
-pub const FILL: &[Row] = &[
-    (
-        Said::Line(PATH, OTHER),
-        Wanted::Written,
-        Wanted::Shown(&[(1, "b")]),
-        NO_TABLE,
-    ),
-    (
-        Said::Start,
-        Wanted::Started,
-        Wanted::Shown(&[(1, "b")]),
-        Wanted::Shown(&[(1, NULL)]),
-    ),
-    (
-        Said::Complete,
-        Wanted::NotFilled,
-        Wanted::Shown(&[(1, "b")]),
-        Wanted::Shown(&[(1, NULL)]),
-    ),
-    (
-        Said::Batch,
-        Wanted::Filled(1),
-        Wanted::Shown(&[(1, "b")]),
-        Wanted::Shown(&[(1, "b")]),
-    ),
-    (
-        Said::Batch,
-        Wanted::Filled(0),
-        Wanted::Shown(&[(1, "b")]),
-        Wanted::Shown(&[(1, "b")]),
-    ),
-];
+const B: Wanted = Wanted::Shown(&[(1, "b")]);
 
-/// Its completion, between whose steps the new version writes.
-pub const COMPLETION: &[Row] = &[
-    (
-        Said::Start,
-        Wanted::Started,
-        Wanted::Shown(&[]),
-        Wanted::Shown(&[]),
-    ),
-    (
-        Said::Line(PATH, OTHER),
-        Wanted::Written,
-        Wanted::Shown(&[(1, "b")]),
-        Wanted::Shown(&[(1, "b")]),
-    ),
-    (
-        Said::Complete,
-        Wanted::Completed(1),
-        NO_TABLE,
-        Wanted::Shown(&[(1, "b")]),
-    ),
-    (
-        Said::Line(NEW, TWO),
-        Wanted::Written,
-        NO_TABLE,
-        Wanted::Shown(&[(1, "b"), (2, "n")]),
-    ),
-    (
-        Said::Complete,
-        Wanted::Completed(2),
-        NO_TABLE,
-        Wanted::Shown(&[(1, "b"), (2, "n")]),
-    ),
-    (
-        Said::Line(NEW, THREE),
-        Wanted::Written,
-        NO_TABLE,
-        Wanted::Shown(&[(1, "b"), (2, "n"), (3, "m")]),
-    ),
-    (
-        Said::Complete,
-        Wanted::Completed(3),
-        NO_TABLE,
-        Wanted::Shown(&[(1, "b"), (2, "n"), (3, "m")]),
-    ),
+const UNFILLED: Wanted = Wanted::Shown(&[(1, NULL)]);
+
+const N: Wanted = Wanted::Shown(&[(2, "n")]);
+
+/// Migrations that add a column, each in its order. The first one is lived through; the others are short.
+pub const MIGRATIONS: [&[Row]; 9] = [
+    &[
+        (Said::Line(PATH, OTHER), Wanted::Written, B, NO_TABLE),
+        (Said::Start, Wanted::Started, B, UNFILLED),
+        (
+            Said::Line(PATH, MINUS),
+            Wanted::Written,
+            Wanted::Shown(&[(-2, ""), (1, "b")]),
+            Wanted::Shown(&[(-2, ""), (1, NULL)]),
+        ),
+        (
+            Said::Line(NEW, TWO),
+            Wanted::Written,
+            Wanted::Shown(&[(-2, ""), (1, "b"), (2, "c")]),
+            Wanted::Shown(&[(-2, ""), (1, NULL), (2, "n")]),
+        ),
+        (
+            Said::Complete,
+            Wanted::NotFilled,
+            Wanted::Shown(&[(-2, ""), (1, "b"), (2, "c")]),
+            Wanted::Shown(&[(-2, ""), (1, NULL), (2, "n")]),
+        ),
+        (
+            Said::Batch,
+            Wanted::Filled(1),
+            Wanted::Shown(&[(-2, ""), (1, "b"), (2, "c")]),
+            Wanted::Shown(&[(-2, ""), (1, "b"), (2, "n")]),
+        ),
+        (
+            Said::Batch,
+            Wanted::Filled(0),
+            Wanted::Shown(&[(-2, ""), (1, "b"), (2, "c")]),
+            Wanted::Shown(&[(-2, ""), (1, "b"), (2, "n")]),
+        ),
+        (
+            Said::Complete,
+            Wanted::Completed(1),
+            NO_TABLE,
+            Wanted::Shown(&[(-2, ""), (1, "b"), (2, "n")]),
+        ),
+        (
+            Said::Line(NEW, THREE),
+            Wanted::Written,
+            NO_TABLE,
+            Wanted::Shown(&[(-2, ""), (1, "b"), (2, "n"), (3, "m")]),
+        ),
+        (
+            Said::Complete,
+            Wanted::Completed(2),
+            NO_TABLE,
+            Wanted::Shown(&[(-2, ""), (1, "b"), (2, "n"), (3, "m")]),
+        ),
+        (
+            Said::Line(NEW, FOUR),
+            Wanted::Written,
+            NO_TABLE,
+            Wanted::Shown(&[(-2, ""), (1, "b"), (2, "n"), (3, "m"), (4, "l")]),
+        ),
+        (
+            Said::Complete,
+            Wanted::Completed(3),
+            NO_TABLE,
+            Wanted::Shown(&[(-2, ""), (1, "b"), (2, "n"), (3, "m"), (4, "l")]),
+        ),
+        (
+            Said::Complete,
+            Wanted::Inactive,
+            NO_TABLE,
+            Wanted::Shown(&[(-2, ""), (1, "b"), (2, "n"), (3, "m"), (4, "l")]),
+        ),
+    ],
+    &[
+        (Said::Line(PATH, OTHER), Wanted::Written, B, NO_TABLE),
+        (Said::Start, Wanted::Started, B, UNFILLED),
+        (Said::Batch, Wanted::Filled(1), B, B),
+    ],
+    &[
+        (Said::Line(PATH, OTHER), Wanted::Written, B, NO_TABLE),
+        (Said::Start, Wanted::Started, B, UNFILLED),
+        (Said::Complete, Wanted::NotFilled, B, UNFILLED),
+    ],
+    &[
+        (Said::Start, Wanted::Started, NONE, NONE),
+        (Said::Line(PATH, OTHER), Wanted::Written, B, B),
+    ],
+    &[
+        (Said::Start, Wanted::Started, NONE, NONE),
+        (
+            Said::Line(NEW, TWO),
+            Wanted::Written,
+            Wanted::Shown(&[(2, "c")]),
+            N,
+        ),
+    ],
+    &[
+        (Said::Start, Wanted::Started, NONE, NONE),
+        (Said::Batch, Wanted::Filled(0), NONE, NONE),
+        (Said::Complete, Wanted::Completed(1), NO_TABLE, NONE),
+        (Said::Complete, Wanted::Completed(2), NO_TABLE, NONE),
+        (Said::Complete, Wanted::Completed(3), NO_TABLE, NONE),
+    ],
+    &[
+        (Said::Start, Wanted::Started, NONE, NONE),
+        (Said::Complete, Wanted::Completed(1), NO_TABLE, NONE),
+        (Said::Line(NEW, TWO), Wanted::Written, NO_TABLE, N),
+    ],
+    &[
+        (Said::Start, Wanted::Started, NONE, NONE),
+        (Said::Complete, Wanted::Completed(1), NO_TABLE, NONE),
+        (Said::Complete, Wanted::Completed(2), NO_TABLE, NONE),
+        (Said::Line(NEW, TWO), Wanted::Written, NO_TABLE, N),
+    ],
+    &[
+        (Said::Line(PATH, OTHER), Wanted::Written, B, NO_TABLE),
+        (Said::Constant, Wanted::Started, B, UNFILLED),
+        (Said::Complete, Wanted::Completed(1), NO_TABLE, UNFILLED),
+        (Said::Complete, Wanted::Completed(2), NO_TABLE, UNFILLED),
+        (Said::Complete, Wanted::Completed(3), NO_TABLE, UNFILLED),
+    ],
 ];
 
 /// Whether the two versions show this of the table.
@@ -306,14 +334,15 @@ fn first_wrong(alloc: Global, session: &[Row]) -> Result<Option<usize>, NoMemory
 
 #[test]
 fn statements_are_answered_and_refused(rt: HostRuntime) -> Result<(), Fail> {
-    assert_eq!(rt; first_wrong(rt.alloc(), SESSION)?, None);
+    assert_eq!(rt; first_wrong(rt.alloc(), REFUSED)?, None);
+    assert_eq!(rt; first_wrong(rt.alloc(), WRITTEN)?, None);
     Ok(())
 }
 
 #[test]
-fn a_migration_is_lived_through(rt: HostRuntime) -> Result<(), Fail> {
-    assert_eq!(rt; first_wrong(rt.alloc(), START)?, None);
-    assert_eq!(rt; first_wrong(rt.alloc(), FILL)?, None);
-    assert_eq!(rt; first_wrong(rt.alloc(), COMPLETION)?, None);
+fn migrations_are_lived_through(rt: HostRuntime) -> Result<(), Fail> {
+    for migration in MIGRATIONS {
+        assert_eq!(rt; first_wrong(rt.alloc(), migration)?, None);
+    }
     Ok(())
 }

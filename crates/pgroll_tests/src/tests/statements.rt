@@ -23,6 +23,8 @@ pub enum Said {
     Row(&'static str, &'static [&'static str], usize),
     /// The start of the migration `02`, which adds a text column `n` made of the name.
     Start,
+    /// The same, with the column's values NULL.
+    Constant,
     /// A batch of at most two rows.
     Batch,
     /// A step of completing.
@@ -50,6 +52,8 @@ pub enum Wanted {
     Completed(u8),
     /// It isn't completed, since a row is still to be filled: that of the key 1.
     NotFilled,
+    /// No migration is active.
+    Inactive,
 }
 
 /// How a NULL is written here in place of a text.
@@ -149,7 +153,7 @@ fn set_path(alloc: Global, core: &mut Core, words: &[&str]) -> Result<Option<Rep
     Ok(Some(core.statement(&path, &stmt)))
 }
 
-fn added(alloc: Global) -> Result<Migration, NoMemory> {
+fn added(alloc: Global, up: Option<Expr>) -> Result<Migration, NoMemory> {
     let column = ColumnDef {
         name: Name::from_slice(alloc, b"n")?,
         ty: Ty::Text,
@@ -163,7 +167,7 @@ fn added(alloc: Global) -> Result<Migration, NoMemory> {
     operations.push(Op::AddColumn {
         table: Name::from_slice(alloc, b"users")?,
         column,
-        up: Some(Expr::Col(Name::from_slice(alloc, b"name")?)),
+        up,
     })?;
     Ok(Migration {
         name: Name::from_slice(alloc, b"02")?,
@@ -171,8 +175,8 @@ fn added(alloc: Global) -> Result<Migration, NoMemory> {
     })
 }
 
-fn start(alloc: Global, core: &mut Core) -> Result<Option<Reply>, NoMemory> {
-    let asked = Asked::Read(added(alloc)?);
+fn start(alloc: Global, core: &mut Core, up: Option<Expr>) -> Result<Option<Reply>, NoMemory> {
+    let asked = Asked::Read(added(alloc, up)?);
     Ok(Some(core.ddl(&Cmd::Start(asked))?))
 }
 
@@ -184,7 +188,8 @@ pub fn reply_to(alloc: Global, core: &mut Core, said: Said) -> Result<Option<Rep
         Said::Numbers => numbers(alloc, core),
         Said::Path(words) => set_path(alloc, core, words),
         Said::Row(table, columns, length) => row(alloc, core, table, columns, length),
-        Said::Start => start(alloc, core),
+        Said::Start => start(alloc, core, Some(column(alloc, "name")?)),
+        Said::Constant => start(alloc, core, None),
         Said::Batch => Ok(Some(core.batch(2))),
         Said::Complete => Ok(Some(core.ddl(&Cmd::Complete)?)),
     }
@@ -231,6 +236,7 @@ pub fn is_wanted(reply: &Reply, wanted: Wanted) -> bool {
         (Reply::Fill { count, .. }, Wanted::Filled(wanted)) => *count == wanted,
         (Reply::Filled, Wanted::Filled(wanted)) => wanted == 0,
         (Reply::Complete(step), Wanted::Completed(wanted)) => *step == wanted,
+        (Reply::Refused(Refusal::NoActive), Wanted::Inactive) => true,
         (Reply::Refused(Refusal::NotFilled(table, key)), Wanted::NotFilled) => {
             table.as_slice() == b"users".as_slice() && *key == 1
         }

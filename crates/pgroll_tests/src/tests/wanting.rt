@@ -1,7 +1,7 @@
 // What is answered where one allocation is refused, whichever it is: want of memory, with all as it was. These tests
 // pass with ample memory too; `rt try --test --fail-alloc N` runs them with the allocation of number N refused in each.
 use crate::tests::calls::{Told, call};
-use crate::tests::engine::{COMPLETION, FILL, NO_TABLE, Row, SESSION, START, shows};
+use crate::tests::engine::{MIGRATIONS, NO_TABLE, REFUSED, Row, WRITTEN, shows};
 use crate::tests::statements::{Wanted, comes_to, reply_to};
 use roll_core::Core;
 use sql_base::NoMemory;
@@ -22,22 +22,31 @@ const STATEMENTS: Call = (
     ],
 );
 
-const BOTH_VERSIONS: Call = (
-    "\\start {\"name\":\"02\",\"operations\":[{\"add_column\":{\"table\":\"users\",\"column\":{\"name\":\"n\",\"type\":\"text\",\"nullable\":true},\"up\":\"name\"}}]}\nINSERT INTO users (id, name) VALUES (1, 'a')\nSET search_path TO public_02\nSELECT n FROM users\n",
-    "1 control START public_02\n2 main INSERT 0 1\n3 main SET\n4 main SELECT 1\n  a\n",
+const WRITE: Call = (
+    "\\start {\"name\":\"02\",\"operations\":[{\"add_column\":{\"table\":\"users\",\"column\":{\"name\":\"n\",\"type\":\"text\",\"nullable\":true},\"up\":\"name\"}}]}\nINSERT INTO users (id, name) VALUES (1, 'a')\n",
+    "1 control START public_02\n2 main INSERT 0 1\n",
+    &["1 control START public_02\n2 main ERROR 53200 - -\n"],
+);
+
+const READ: Call = (
+    "\\start {\"name\":\"02\",\"operations\":[{\"add_column\":{\"table\":\"users\",\"column\":{\"name\":\"n\",\"type\":\"text\",\"nullable\":true},\"up\":\"name\"}}]}\nSET search_path TO public_02\nSELECT n FROM users\n",
+    "1 control START public_02\n2 main SET\n3 main SELECT 0\n",
     &[
-        "1 control START public_02\n2 main ERROR 53200 - -\n3 main SET\n4 main SELECT 0\n",
-        "1 control START public_02\n2 main INSERT 0 1\n3 main ERROR 53200 - -\n4 main ERROR 42703 n -\n",
-        "1 control START public_02\n2 main INSERT 0 1\n3 main SET\n4 main ERROR 53200 - -\n",
+        "1 control START public_02\n2 main ERROR 53200 - -\n3 main ERROR 42703 n -\n",
+        "1 control START public_02\n2 main SET\n3 main ERROR 53200 - -\n",
     ],
 );
 
-const FILLED: Call = (
-    "INSERT INTO users (id, name) VALUES (1, 'a')\n\\start {\"name\":\"02\",\"operations\":[{\"add_column\":{\"table\":\"users\",\"column\":{\"name\":\"n\",\"type\":\"text\",\"nullable\":true},\"up\":\"name\"}}]}\n\\fill\n\\complete\n",
-    "1 main INSERT 0 1\n2 control START public_02\n3 control FILL users 1 1 1\n4 control FILLED\n5 control COMPLETE 1\n6 control COMPLETE 2\n7 control COMPLETE 3\n",
-    &[
-        "1 main ERROR 53200 - -\n2 control START public_02\n3 control FILLED\n4 control COMPLETE 1\n5 control COMPLETE 2\n6 control COMPLETE 3\n",
-    ],
+const FILL: Call = (
+    "INSERT INTO users (id, name) VALUES (1, 'a')\n\\start {\"name\":\"02\",\"operations\":[{\"add_column\":{\"table\":\"users\",\"column\":{\"name\":\"n\",\"type\":\"text\",\"nullable\":true},\"up\":\"name\"}}]}\n\\fill\n",
+    "1 main INSERT 0 1\n2 control START public_02\n3 control FILL users 1 1 1\n4 control FILLED\n",
+    &["1 main ERROR 53200 - -\n2 control START public_02\n3 control FILLED\n"],
+);
+
+const COMPLETE: Call = (
+    "\\start {\"name\":\"02\",\"operations\":[{\"add_column\":{\"table\":\"users\",\"column\":{\"name\":\"n\",\"type\":\"text\",\"nullable\":true},\"up\":\"name\"}}]}\n\\complete\n",
+    "1 control START public_02\n2 control COMPLETE 1\n3 control COMPLETE 2\n4 control COMPLETE 3\n",
+    &[],
 );
 
 const MEMORY: &str = "0 control ERROR memory\n";
@@ -81,13 +90,23 @@ fn statements_tell_want_of_memory(rt: HostRuntime) {
 }
 
 #[test]
-fn a_migration_tells_want_of_memory(rt: HostRuntime) {
-    assert!(rt; tells(rt.alloc(), &BOTH_VERSIONS));
+fn a_write_tells_want_of_memory(rt: HostRuntime) {
+    assert!(rt; tells(rt.alloc(), &WRITE));
+}
+
+#[test]
+fn a_read_tells_want_of_memory(rt: HostRuntime) {
+    assert!(rt; tells(rt.alloc(), &READ));
+}
+
+#[test]
+fn a_backfill_tells_want_of_memory(rt: HostRuntime) {
+    assert!(rt; tells(rt.alloc(), &FILL));
 }
 
 #[test]
 fn a_completion_tells_want_of_memory(rt: HostRuntime) {
-    assert!(rt; tells(rt.alloc(), &FILLED));
+    assert!(rt; tells(rt.alloc(), &COMPLETE));
 }
 
 // ---- the engine
@@ -137,21 +156,51 @@ fn none_wrong(alloc: Global, session: &[Row]) -> bool {
 }
 
 #[test]
-fn the_engine_tells_want_of_memory(rt: HostRuntime) {
-    assert!(rt; none_wrong(rt.alloc(), SESSION));
+fn refused_statements_tell_want_of_memory(rt: HostRuntime) {
+    assert!(rt; none_wrong(rt.alloc(), REFUSED));
 }
 
 #[test]
-fn its_start_tells_want_of_memory(rt: HostRuntime) {
-    assert!(rt; none_wrong(rt.alloc(), START));
+fn written_rows_tell_want_of_memory(rt: HostRuntime) {
+    assert!(rt; none_wrong(rt.alloc(), WRITTEN));
 }
 
 #[test]
-fn its_batches_tell_want_of_memory(rt: HostRuntime) {
-    assert!(rt; none_wrong(rt.alloc(), FILL));
+fn migration_1_tells_want_of_memory(rt: HostRuntime) {
+    assert!(rt; none_wrong(rt.alloc(), MIGRATIONS[1]));
 }
 
 #[test]
-fn its_completion_tells_want_of_memory(rt: HostRuntime) {
-    assert!(rt; none_wrong(rt.alloc(), COMPLETION));
+fn migration_2_tells_want_of_memory(rt: HostRuntime) {
+    assert!(rt; none_wrong(rt.alloc(), MIGRATIONS[2]));
+}
+
+#[test]
+fn migration_3_tells_want_of_memory(rt: HostRuntime) {
+    assert!(rt; none_wrong(rt.alloc(), MIGRATIONS[3]));
+}
+
+#[test]
+fn migration_4_tells_want_of_memory(rt: HostRuntime) {
+    assert!(rt; none_wrong(rt.alloc(), MIGRATIONS[4]));
+}
+
+#[test]
+fn migration_5_tells_want_of_memory(rt: HostRuntime) {
+    assert!(rt; none_wrong(rt.alloc(), MIGRATIONS[5]));
+}
+
+#[test]
+fn migration_6_tells_want_of_memory(rt: HostRuntime) {
+    assert!(rt; none_wrong(rt.alloc(), MIGRATIONS[6]));
+}
+
+#[test]
+fn migration_7_tells_want_of_memory(rt: HostRuntime) {
+    assert!(rt; none_wrong(rt.alloc(), MIGRATIONS[7]));
+}
+
+#[test]
+fn migration_8_tells_want_of_memory(rt: HostRuntime) {
+    assert!(rt; none_wrong(rt.alloc(), MIGRATIONS[8]));
 }
