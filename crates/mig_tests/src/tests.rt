@@ -3,9 +3,10 @@ mod shown;
 
 use made::{migration, name, one, text, users};
 use mig_lens::{
-    Fate, Kind, Lens, Member, Op, Place, Plan, Refusal, Ways, backward, forward, layout, plan,
+    Fate, Kind, Lens, Member, Migration, Op, Place, Plan, PlanFault, Refusal, Ways, backward,
+    forward, layout, plan,
 };
-use sql_base::{Code, Copying, Expr, List, Shape, Value};
+use sql_base::{Code, Copying, Expr, List, Name, Shape, Value};
 use std::alloc::Global;
 use std::test::Fail;
 
@@ -63,7 +64,12 @@ const PLANS: &[(&str, &str)] = &[
     ("users age bigint null; drop", "not yet 1"),
 ];
 
+fn planned_users(alloc: Global, m: &Migration) -> Result<Plan, PlanFault> {
+    plan(alloc, &users(alloc)?, 2, m)
+}
+
 fn planned(alloc: Global, plan: &Plan) -> Result<String, Fail> {
+    let plan = plan.copy(alloc)?;
     let table = plan.schema.tables.get(0).ok_or("a table")?;
     let shape = shown::shape(alloc, &table.2)?;
     match plan.fates.get(0) {
@@ -75,11 +81,15 @@ fn planned(alloc: Global, plan: &Plan) -> Result<String, Fail> {
     }
 }
 
+fn refused(alloc: Global, fault: &PlanFault) -> Result<String, Fail> {
+    shown::fault(alloc, &fault.copy(alloc)?)
+}
+
 fn answered(alloc: Global, words: &str) -> Result<String, Fail> {
     let m = migration(alloc, words)?.copy(alloc)?;
-    match plan(alloc, &users(alloc)?, 2, &m) {
-        Ok(plan) => planned(alloc, &plan.copy(alloc)?),
-        Err(fault) => shown::fault(alloc, &fault.copy(alloc)?),
+    match planned_users(alloc, &m) {
+        Ok(plan) => planned(alloc, &plan),
+        Err(fault) => refused(alloc, &fault),
     }
 }
 
@@ -140,73 +150,90 @@ fn row(alloc: Global, word: &str, last: &str) -> Result<List<Value>, Fail> {
     Ok(row)
 }
 
-/// The new half, if the old half that is made from it is the old half again.
+/// The only table of a plan over `users`: its old shape, its new shape and its lens.
+#[derive(Drop)]
+struct Only {
+    old: Shape,
+    new: Shape,
+    lens: Lens,
+}
+
+fn kept(alloc: Global, old: &Shape, new: &Shape, lens: &Lens) -> Result<Only, Fail> {
+    let old = old.copy(alloc)?;
+    let new = new.copy(alloc)?;
+    let lens = lens.copy(alloc)?;
+    Ok(Only { old, new, lens })
+}
+
+fn only_kept(alloc: Global, plan: &Plan) -> Result<Only, Fail> {
+    let old = users(alloc)?;
+    let old = old.tables.get(0).ok_or("a table")?;
+    let new = plan.schema.tables.get(0).ok_or("a table")?;
+    match plan.fates.get(0) {
+        Some((_, Fate::Kept(lens))) => kept(alloc, &old.2, &new.2, lens),
+        _ => Err("no lens".into()),
+    }
+}
+
+fn only_table(alloc: Global, words: &str) -> Result<Only, Fail> {
+    let m = migration(alloc, words)?;
+    let plan = planned_users(alloc, &m)?;
+    only_kept(alloc, &plan)
+}
+
+/// The new half that was made, if the old half that is made from it is the old half again.
+fn and_back(alloc: Global, only: &Only, half: &[Value], made: &[Value]) -> Result<String, Fail> {
+    let back = backward(alloc, &only.lens, &only.new, made, None)?;
+    if back.as_slice() != half {
+        return Ok(String::from_str(alloc, "another old half")?);
+    }
+    shown::half(alloc, made)
+}
+
+/// What `forward` makes, there and back.
 fn there_and_back(
     alloc: Global,
-    lens: &Lens,
-    old: &Shape,
-    new: &Shape,
+    only: &Only,
     half: &[Value],
     before: Option<&[Value]>,
 ) -> Result<String, Fail> {
-    match forward(alloc, lens, old, half, before) {
-        Ok(made) => {
-            let back = backward(alloc, lens, new, made.as_slice(), None)?;
-            if back.as_slice() != half {
-                return Ok(String::from_str(alloc, "another old half")?);
-            }
-            shown::half(alloc, made.as_slice())
-        }
+    match forward(alloc, &only.lens, &only.old, half, before) {
+        Ok(made) => and_back(alloc, only, half, made.as_slice()),
         Err(fault) => Ok(format!(in alloc; "{fault:?}")?),
     }
+}
+
+/// The lens with its sides exchanged.
+fn turned(alloc: Global, lens: &Lens) -> Result<Lens, Fail> {
+    let new_cols = lens.old_cols.copy(alloc)?;
+    let old_cols = lens.new_cols.copy(alloc)?;
+    Ok(Lens { new_cols, old_cols })
 }
 
 /// What `backward` makes by the same lens with its sides exchanged.
 fn mirrored(
     alloc: Global,
-    lens: &Lens,
-    old: &Shape,
+    only: &Only,
     half: &[Value],
     before: Option<&[Value]>,
 ) -> Result<String, Fail> {
-    let turned = Lens {
-        new_cols: lens.old_cols.copy(alloc)?,
-        old_cols: lens.new_cols.copy(alloc)?,
-    };
-    match backward(alloc, &turned, old, half, before) {
+    let turned = turned(alloc, &only.lens)?;
+    match backward(alloc, &turned, &only.old, half, before) {
         Ok(made) => shown::half(alloc, made.as_slice()),
         Err(fault) => Ok(format!(in alloc; "{fault:?}")?),
-    }
-}
-
-/// The only table of a plan over `users`: its old shape, its new shape and its lens.
-fn only_table(alloc: Global, words: &str) -> Result<(Shape, Shape, Lens), Fail> {
-    let old = users(alloc)?;
-    let plan = plan(alloc, &old, 2, &migration(alloc, words)?)?;
-    let new = plan.schema.tables.get(0).ok_or("a table")?;
-    let old = old.tables.get(0).ok_or("a table")?;
-    match plan.fates.get(0) {
-        Some((_, Fate::Kept(lens))) => {
-            Ok((old.2.copy(alloc)?, new.2.copy(alloc)?, lens.copy(alloc)?))
-        }
-        _ => Err("no lens".into()),
     }
 }
 
 /// The new half of the row, twice: by `forward`, and by `backward` of the mirrored lens.
 fn halves(
     alloc: Global,
-    words: &str,
-    word: &str,
+    only: &Only,
+    half: &[Value],
     before: Option<&[Value]>,
 ) -> Result<(String, String), Fail> {
-    let (old, new, lens) = only_table(alloc, words)?;
-    let half = row(alloc, word, "-")?;
-    let there = there_and_back(alloc, &lens, &old, &new, half.as_slice(), before)?;
-    Ok((
-        there,
-        mirrored(alloc, &lens, &old, half.as_slice(), before)?,
-    ))
+    let there = there_and_back(alloc, only, half, before)?;
+    let mirror = mirrored(alloc, only, half, before)?;
+    Ok((there, mirror))
 }
 
 fn halves_after(
@@ -215,11 +242,13 @@ fn halves_after(
     word: &str,
     last: &str,
 ) -> Result<(String, String), Fail> {
+    let only = only_table(alloc, words)?;
+    let half = row(alloc, word, "-")?;
     if last == "-" {
-        return halves(alloc, words, word, None);
+        return halves(alloc, &only, half.as_slice(), None);
     }
     let before = row(alloc, "z", last)?;
-    halves(alloc, words, word, Some(before.as_slice()))
+    halves(alloc, &only, half.as_slice(), Some(before.as_slice()))
 }
 
 #[test]
@@ -233,23 +262,30 @@ fn halves_are_made_both_ways(rt: HostRuntime) -> Result<(), Fail> {
     Ok(())
 }
 
+/// Migrations of `users`, and the places of a stored row while they are active.
+const LAYOUTS: &[(&str, &str)] = &[
+    (
+        "users age bigint null up=0",
+        "id:bigint name:text _pgroll_new_age:bigint _pgroll_needs_backfill:boolean mark",
+    ),
+    (
+        "users age bigint default=0",
+        "id:bigint name:text _pgroll_new_age:bigint no mark",
+    ),
+];
+
+fn laid(alloc: Global, words: &str) -> Result<String, Fail> {
+    let only = only_table(alloc, words)?;
+    let found = layout(alloc, &only.old, &only.new, &only.lens)?;
+    shown::layout(alloc, &found.copy(alloc)?)
+}
+
 #[test]
 fn stored_rows_have_shadows_and_a_mark(rt: HostRuntime) -> Result<(), Fail> {
     let alloc = rt.alloc();
-    for (words, wanted) in [
-        (
-            "users age bigint null up=0",
-            "id:bigint name:text _pgroll_new_age:bigint _pgroll_needs_backfill:boolean mark",
-        ),
-        (
-            "users age bigint default=0",
-            "id:bigint name:text _pgroll_new_age:bigint no mark",
-        ),
-    ] {
-        let (old, new, lens) = only_table(alloc, words)?;
-        let found = layout(alloc, &old, &new, &lens)?.copy(alloc)?;
-        let found = shown::layout(alloc, &found)?;
-        assert!(rt; found.as_str() == wanted, "{words}: {found}");
+    for (words, wanted) in LAYOUTS {
+        let found = laid(alloc, words)?;
+        assert!(rt; found.as_str() == *wanted, "{words}: {found}");
     }
     Ok(())
 }
@@ -258,33 +294,49 @@ fn zero() -> Expr {
     Expr::Lit(Value::Int(0))
 }
 
-/// An operation of each kind but `add_column`.
-fn operations(alloc: Global) -> Result<List<Op>, Fail> {
-    let [users, age, a] = ["users", "age", "a"];
-    let mut all = one(
-        alloc,
-        Op::CreateTable {
-            name: name(alloc, users)?,
-            columns: List::new(alloc),
-        },
-    )?;
-    all.push(Op::DropTable {
-        name: name(alloc, users)?,
-    })?;
-    all.push(Op::RenameTable {
-        from: name(alloc, users)?,
-        to: name(alloc, a)?,
-    })?;
-    all.push(Op::DropColumn {
-        table: name(alloc, users)?,
-        column: name(alloc, age)?,
+fn created(alloc: Global) -> Result<Op, Fail> {
+    Ok(Op::CreateTable {
+        name: name(alloc, "users")?,
+        columns: List::new(alloc),
+    })
+}
+
+fn dropped(alloc: Global) -> Result<Op, Fail> {
+    Ok(Op::DropTable {
+        name: name(alloc, "users")?,
+    })
+}
+
+fn renamed(alloc: Global) -> Result<Op, Fail> {
+    let from = name(alloc, "users")?;
+    let to = name(alloc, "a")?;
+    Ok(Op::RenameTable { from, to })
+}
+
+fn column_dropped(alloc: Global) -> Result<Op, Fail> {
+    let table = name(alloc, "users")?;
+    let column = name(alloc, "age")?;
+    Ok(Op::DropColumn {
+        table,
+        column,
         down: Some(zero()),
-    })?;
-    all.push(Op::RenameColumn {
-        table: name(alloc, users)?,
-        from: name(alloc, age)?,
-        to: name(alloc, a)?,
-    })?;
+    })
+}
+
+fn column_renamed(alloc: Global) -> Result<Op, Fail> {
+    let table = name(alloc, "users")?;
+    let from = name(alloc, "age")?;
+    let to = name(alloc, "a")?;
+    Ok(Op::RenameColumn { table, from, to })
+}
+
+/// With `constraint_operations`: an operation of each kind but `add_column`.
+fn operations(alloc: Global) -> Result<List<Op>, Fail> {
+    let mut all = one(alloc, created(alloc)?)?;
+    all.push(dropped(alloc)?)?;
+    all.push(renamed(alloc)?)?;
+    all.push(column_dropped(alloc)?)?;
+    all.push(column_renamed(alloc)?)?;
     Ok(all)
 }
 
@@ -305,16 +357,21 @@ fn altered(alloc: Global) -> Result<Op, Fail> {
     })
 }
 
+fn zeros(alloc: Global) -> Result<List<(Name, Expr)>, Fail> {
+    Ok(one(alloc, (name(alloc, "age")?, zero()))?)
+}
+
 fn constrained(alloc: Global) -> Result<Op, Fail> {
     let table = name(alloc, "users")?;
+    let unique = name(alloc, "ages")?;
     let columns = one(alloc, name(alloc, "age")?)?;
-    let pair = (name(alloc, "age")?, zero());
+    let up = zeros(alloc)?;
     Ok(Op::CreateConstraint {
         table,
-        name: name(alloc, "ages")?,
+        name: unique,
         columns,
         check: None,
-        up: one(alloc, pair)?,
+        up,
         down: List::new(alloc),
     })
 }

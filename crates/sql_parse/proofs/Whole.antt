@@ -11,7 +11,6 @@ use Rattle.sql_parse.specs.declared.machine.State.TheVariants as q
 use Rattle.sql_parse.specs.Grammar.{IsText}
 use Rattle.sql_parse.specs.Machine.{run}
 use Rattle.sql_parse.specs.Viable.{Viable}
-use Rattle.sql_parse.specs.Laws.{RunsTell}
 use Rattle.sql_parse.proofs.Capped.{cap, capped}
 use Rattle.sql_parse.proofs.Complete.{run-append, run-none, text_runs}
 use Rattle.sql_parse.proofs.Sound.{LeadsIf, run_leads, viable, none}
@@ -49,6 +48,3 @@ whole_read ts a d e = let read = run_reads ts (Whole a d) e in let same = capped
 
 pub deep_read : (ts : List Token) → run 64 start ts ≡ Some (q.Done Deep) → (a : Expr) × IsText ts a × (64 < depth a)
 deep_read ts e = let read = run_reads ts Deep e in (read.0, read.1, capped_deep read.0 (depth read.0) read.2)
-
-pub runs_tell : RunsTell
-runs_tell ts = (run_fails ts, run_viable ts, whole_read ts, deep_read ts)

@@ -1,6 +1,6 @@
 //! Laws of the grammar.
 
-ghost use Rattle.sql_parse.specs.Laws.{OneTree, OneStatement, RunsTell, ReadBack, TreesHaveText};
+ghost use Rattle.sql_parse.specs.Laws.{OneTree, OneStatement, ReadBack, TreesHaveText};
 
 use sql_text::{a_text_has_its_tokens, tokens_are_proper};
 
@@ -12,11 +12,6 @@ pub fn one_tree()
 /// The law that no text has two statements.
 pub fn one_statement()
     ensures { OneStatement }
-{}
-
-/// The law that what can be gone through can still become a text, and the other way round.
-pub fn runs_tell()
-    ensures { RunsTell }
 {}
 
 /// The law that the canonical text of an expression reads as that expression.

@@ -15,11 +15,6 @@ mod trees;
 mod verbs;
 
 pub use faults::ParseFault;
-pub use laws::{one_statement, one_tree, read_back, runs_tell, trees_have_text};
+pub use laws::{one_statement, one_tree, read_back, trees_have_text};
 pub use parse::parse_expr;
 pub use stmts::parse_stmt;
-
-#[cfg(test)]
-mod stmt_tests;
-#[cfg(test)]
-mod tests;

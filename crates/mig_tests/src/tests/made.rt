@@ -99,57 +99,92 @@ fn check(alloc: Global, words: &str) -> Result<Check, Fail> {
     })
 }
 
-/// `add_column`: table, column, `bigint` or `text`, and then `null`, `pk`, `unique`, `default=`, `check=NAME:` and `up=`
-/// as there are.
-fn added(alloc: Global, words: &str) -> Result<Op, Fail> {
-    let mut words = words.split(' ');
-    let table = name(alloc, words.next().unwrap_or(""))?;
-    let column = name(alloc, words.next().unwrap_or(""))?;
-    let ty = if words.next() == Some("text") {
+/// Whether this is one of the words.
+fn has(words: &str, wanted: &str) -> bool {
+    for word in words.split(' ') {
+        if word == wanted {
+            return true;
+        }
+    }
+    false
+}
+
+/// What stands behind `front` in the first word that begins so.
+fn behind<'a>(words: &'a str, front: &str) -> Option<&'a str> {
+    for word in words.split(' ') {
+        if let Some(rest) = word.strip_prefix(front) {
+            return Some(rest);
+        }
+    }
+    None
+}
+
+fn default(alloc: Global, words: &str) -> Result<Value, Fail> {
+    match behind(words, "default=") {
+        Some(word) => Ok(literal(alloc, word)?.ok_or("not a literal")?),
+        None => Ok(Value::Null),
+    }
+}
+
+fn checked(alloc: Global, words: &str) -> Result<Option<Check>, Fail> {
+    match behind(words, "check=") {
+        Some(words) => Ok(Some(check(alloc, words)?)),
+        None => Ok(None),
+    }
+}
+
+fn up(alloc: Global, words: &str) -> Result<Option<Expr>, Fail> {
+    match behind(words, "up=") {
+        Some(word) => Ok(Some(expr(alloc, word)?)),
+        None => Ok(None),
+    }
+}
+
+fn defined(alloc: Global, word: &str, words: &str) -> Result<ColumnDef, Fail> {
+    let name = name(alloc, word)?;
+    let default = default(alloc, words)?;
+    let check = checked(alloc, words)?;
+    let ty = if has(words, "text") {
         Ty::Text
     } else {
         Ty::Bigint
     };
-    let mut made = ColumnDef {
-        name: column,
+    Ok(ColumnDef {
+        name,
         ty,
-        nullable: false,
-        pk: false,
-        unique: false,
-        default: Value::Null,
-        check: None,
-    };
-    let mut up = None;
-    for word in words {
-        if let Some(value) = word.strip_prefix("default=") {
-            made.default = literal(alloc, value)?.ok_or("not a literal")?;
-        } else if let Some(words) = word.strip_prefix("check=") {
-            made.check = Some(check(alloc, words)?);
-        } else if let Some(word) = word.strip_prefix("up=") {
-            up = Some(expr(alloc, word)?);
-        }
-        made.nullable |= word == "null";
-        made.pk |= word == "pk";
-        made.unique |= word == "unique";
-    }
-    Ok(Op::AddColumn {
-        table,
-        column: made,
-        up,
+        nullable: has(words, "null"),
+        pk: has(words, "pk"),
+        unique: has(words, "unique"),
+        default,
+        check,
     })
+}
+
+/// `add_column`: table, column, `bigint` or `text`, and then `null`, `pk`, `unique`, `default=`, `check=NAME:` and `up=`
+/// as there are.
+fn added(alloc: Global, words: &str) -> Result<Op, Fail> {
+    let (table, words) = words.split_once(' ').ok_or("no column")?;
+    let (column, words) = words.split_once(' ').ok_or("no type")?;
+    let table = name(alloc, table)?;
+    let column = defined(alloc, column, words)?;
+    let up = up(alloc, words)?;
+    Ok(Op::AddColumn { table, column, up })
+}
+
+fn operation(alloc: Global, words: &str) -> Result<Op, Fail> {
+    if words == "drop" {
+        return Ok(Op::DropTable {
+            name: name(alloc, "users")?,
+        });
+    }
+    added(alloc, words)
 }
 
 /// Operations, with `; ` between them. One of the single word `drop` drops `users`.
 pub fn migration(alloc: Global, words: &str) -> Result<Migration, Fail> {
     let mut operations = List::new(alloc);
     for words in words.split("; ") {
-        operations.push(if words == "drop" {
-            Op::DropTable {
-                name: name(alloc, "users")?,
-            }
-        } else {
-            added(alloc, words)?
-        })?;
+        operations.push(operation(alloc, words)?)?;
     }
     Ok(Migration {
         name: name(alloc, "02")?,

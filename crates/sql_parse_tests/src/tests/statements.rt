@@ -1,8 +1,8 @@
 //! Statements as texts, and where texts have their first fault.
 
-use crate::tests::told;
-use crate::{ParseFault, parse_stmt};
+use super::{MOST, told};
 use sql_base::{Expr, Items, List, Name, Stmt};
+use sql_parse::{ParseFault, parse_stmt};
 use sql_text::print_expr;
 use std::alloc::Global;
 use std::test::Fail;
@@ -110,9 +110,6 @@ SELECT a FROM t WHERE b c 9223372036854775808 => syntax 24
 INSERT INTO t (a) VALUES (9223372036854775808 => wide 26
 UPDATE t SET a = - 9223372036854775808 => wide 19
 ";
-
-// The longest text that is read.
-const MOST: usize = 65_536;
 
 fn read(alloc: Global, text: &[u8]) -> Result<Stmt, ParseFault> {
     if text.len() > MOST {

@@ -1,7 +1,8 @@
 //! Expressions as texts, both ways, and where texts have their first fault.
 
-use crate::{ParseFault, parse_expr};
+use super::{MOST, told};
 use sql_base::Expr;
+use sql_parse::{ParseFault, parse_expr};
 use sql_text::print_expr;
 use std::alloc::Global;
 use std::test::Fail;
@@ -174,24 +175,11 @@ a + 9223372036854775808 => wide 4
 upper(9223372036854775808 => wide 6
 ";
 
-// The longest text that is read.
-const MOST: usize = 65_536;
-
 fn read(alloc: Global, text: &[u8]) -> Result<Expr, ParseFault> {
     if text.len() > MOST {
         return Err(ParseFault::NoMemory);
     }
     parse_expr(alloc, text)
-}
-
-// A fault, in words.
-pub fn told(alloc: Global, fault: ParseFault) -> Result<String, Fail> {
-    match fault {
-        ParseFault::Syntax { at } => Ok(format!(in alloc; "syntax {at}")?),
-        ParseFault::Wide { at } => Ok(format!(in alloc; "wide {at}")?),
-        ParseFault::Deep => Ok(String::from_str(alloc, "deep")?),
-        ParseFault::NoMemory => Ok(String::from_str(alloc, "no memory")?),
-    }
 }
 
 // The canonical text of the tree that the text reads as, or its fault.
