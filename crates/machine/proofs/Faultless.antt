@@ -1,5 +1,5 @@
 -- What comes after an outcome without a fault.
-use Rattle.std.proofs.Common.{◌≡◌, Option, Some, None, Result, Ok, Err, refl}
+use Rattle.std.proofs.Common.{◌≡◌, None, Result, Ok, Err, refl}
 use Rattle.sql_base.specs.Outcome.{and_then}
 use Rattle.machine.specs.Plain.{fault_of}
 use Rattle.machine.specs.Statement.{or_reply}

@@ -1,5 +1,5 @@
 -- What one lane does is a run of the machine.
-use Rattle.std.proofs.Common.{◌≡◌, inl, inr, ℕ, ◌+◌, List, [], ◌∷◌}
+use Rattle.std.proofs.Common.{inl, inr, ℕ, ◌+◌, List, [], ◌∷◌}
 use Rattle.machine.proofs.Choosing.{plain_steps_are_steps}
 use Rattle.machine.proofs.Running.{beginning_stands, steps_keep_states}
 use Rattle.machine.specs.declared.events.Entry.{Entry}

@@ -1,8 +1,11 @@
 pub mod Accepting
+pub mod Answering
 pub mod Choosing
 pub mod Clashes
 pub mod Clashing
 pub mod Completing
+pub mod Emptying
+pub mod Ending
 pub mod Faultless
 pub mod Filling
 pub mod Inserting

@@ -257,7 +257,7 @@ replaced_stands s number rows stands a r few =
       few = few;
     }
 
--- ---- the number of rows
+-- ---- what is counted in all rows
 
 -- a number below all of these tables' is none of theirs
 absent : (number : ℕ) (rows : List Kept) (first : ℕ) (tables : List (ℕ × List Kept)) → NumbersAscend (first ∷ map (λ table. table.0) tables) → number ≤ first → (map (replaced number rows) tables ≡ tables) × (found_rows number tables ≡ [])
@@ -279,30 +279,35 @@ rest_ascends : (number : ℕ) (numbers : List ℕ) → NumbersAscend (number ∷
 rest_ascends number [] h = tt
 rest_ascends number (next ∷ numbers) h = h.1
 
-abbrev count_rows : List (ℕ × List Kept) → ℕ
-count_rows tables = sum_by (λ table. length table.1) tables
+-- What is counted in the rows of each table, over all tables.
+module _ (count : List Kept → ℕ) (none : count [] ≡ 0) where
+  abbrev total : List (ℕ × List Kept) → ℕ
+  total tables = sum_by (λ table. count table.1) tables
 
-replaced_count : (number : ℕ) (rows : List Kept) (tables : List (ℕ × List Kept)) → NumbersAscend (map (λ table. table.0) tables) → count_rows (map (replaced number rows) tables) + length (found_rows number tables) ≤ count_rows tables + length rows
-replaced_count number rows [] h = omega arith
-replaced_count number rows (table ∷ tables) h =
-    by_test (table.0 == number) refl (replaced_count number rows tables (rest_ascends table.0 (map (λ table. table.0) tables) h))
-  where
-    by_test : (b : Bool) → (table.0 == number) ≡ b → count_rows (map (replaced number rows) tables) + length (found_rows number tables) ≤ count_rows tables + length rows → count_rows ((if b then (number, rows) else table) ∷ map (replaced number rows) tables) + length (option_map_or (λ table. table.1) (if b then Some table else find {X = ℕ × List Kept} (λ table. table.0 == number) tables) []) ≤ count_rows (table ∷ tables) + length rows
-    by_test true e there =
-        let same : table.0 ≡ number = grind (arith, nat_tests) in
-        let rest = absent number rows table.0 tables h (le_of_eq (sym same)) in
-        let one = sum_by-cons (λ (table : ℕ × List Kept). length table.1) (number, rows) (map (replaced number rows) tables) in
-        let two = sum_by-cons (λ (table : ℕ × List Kept). length table.1) table tables in
-        let counts : count_rows (map (replaced number rows) tables) ≡ count_rows tables = ap count_rows rest.0 in
-        omega (arith, one, two, counts)
-    by_test false e there =
-        let one = sum_by-cons (λ (table : ℕ × List Kept). length table.1) table (map (replaced number rows) tables) in
-        let two = sum_by-cons (λ (table : ℕ × List Kept). length table.1) table tables in
-        omega (arith, one, two, there)
+  replaced_total : (number : ℕ) (rows : List Kept) (tables : List (ℕ × List Kept)) → NumbersAscend (map (λ table. table.0) tables) → total (map (replaced number rows) tables) + count (found_rows number tables) ≤ total tables + count rows
+  replaced_total number rows [] h = omega (arith, none)
+  replaced_total number rows (table ∷ tables) h =
+      by_test (table.0 == number) refl (replaced_total number rows tables (rest_ascends table.0 (map (λ table. table.0) tables) h))
+    where
+      by_test : (b : Bool) → (table.0 == number) ≡ b → total (map (replaced number rows) tables) + count (found_rows number tables) ≤ total tables + count rows → total ((if b then (number, rows) else table) ∷ map (replaced number rows) tables) + count (option_map_or (λ table. table.1) (if b then Some table else find {X = ℕ × List Kept} (λ table. table.0 == number) tables) []) ≤ total (table ∷ tables) + count rows
+      by_test true e there =
+          let same : table.0 ≡ number = grind (arith, nat_tests) in
+          let rest = absent number rows table.0 tables h (le_of_eq (sym same)) in
+          let one = sum_by-cons (λ (table : ℕ × List Kept). count table.1) (number, rows) (map (replaced number rows) tables) in
+          let two = sum_by-cons (λ (table : ℕ × List Kept). count table.1) table tables in
+          let counts : total (map (replaced number rows) tables) ≡ total tables = ap total rest.0 in
+          omega (arith, one, two, counts)
+      by_test false e there =
+          let one = sum_by-cons (λ (table : ℕ × List Kept). count table.1) table (map (replaced number rows) tables) in
+          let two = sum_by-cons (λ (table : ℕ × List Kept). count table.1) table tables in
+          omega (arith, one, two, there)
 
--- With the rows that were there before, the rows now are at most those before with the new ones.
+  -- With what was counted in the rows that were there before, there is now at most what there was before with what is counted in the new ones.
+  pub with_rows_total : (s : State) (number : ℕ) (rows : List Kept) → IsState s → total (with_rows s number rows).tables + count (rows_of s number) ≤ total s.tables + count rows
+  with_rows_total s number rows stands = replaced_total number rows s.tables stands.numbers
+
 pub with_rows_count : (s : State) (number : ℕ) (rows : List Kept) → IsState s → row_count (with_rows s number rows) + length (rows_of s number) ≤ row_count s + length rows
-with_rows_count s number rows stands = replaced_count number rows s.tables stands.numbers
+with_rows_count = with_rows_total length refl
 
 -- A table whose rows keep their keys: what a batch needs.
 pub refilled_stands : (s : State) (number : ℕ) (rows : List Kept) → IsState s → Ascends rows → RowsStand s number rows → length rows ≤ length (rows_of s number) → IsState (with_rows s number rows)

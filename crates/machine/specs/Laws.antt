@@ -1,11 +1,17 @@
 -- What holds of the machine's steps and runs.
-use Rattle.std.specs.Prelude.{◌≡◌, ℕ, Bool, true, false, List, None, Ok}
+use Rattle.std.specs.Prelude.{◌≡◌, ◌<◌, ◌≤◌, ◌==◌, ℕ, Bool, true, false, List, None, Ok, is_none, sum_by, if◌then◌else◌}
+use Rattle.std.specs.List.{count_by}
 use Rattle.sql_base.specs.declared.shapes.Shape.{Shape}
 use Rattle.sql_base.specs.declared.values.Value.{Value}
 use Rattle.mig_lens.specs.declared.columns.Lens.{Lens}
 use Rattle.mig_lens.specs.declared.columns.Side.TheVariants.{Old}
+use Rattle.mig_lens.specs.declared.faults.Kind.{Kind}
+use Rattle.mig_lens.specs.declared.faults.Kind.TheVariants as kind
+use Rattle.mig_lens.specs.declared.faults.Refusal.{Refusal}
 use Rattle.machine.specs.declared.events.Entry.{Entry}
 use Rattle.machine.specs.declared.events.Event.{Event}
+use Rattle.machine.specs.declared.events.Event.TheVariants as event
+use Rattle.machine.specs.declared.events.Reading.{Reading}
 use Rattle.machine.specs.declared.events.Reply.{Reply}
 use Rattle.machine.specs.declared.events.Reply.TheVariants.{Insert, Select, Set, Error, Start, Fill, Filled, Complete, Refused}
 use Rattle.machine.specs.declared.states.Kept.{Kept}
@@ -14,7 +20,9 @@ use Rattle.mig_lens.specs.Layout.{has_mark}
 use Rattle.mig_lens.specs.Lens.{forward, unfilled}
 use Rattle.machine.specs.State.{Found, beginning, shown}
 use Rattle.machine.specs.Lawful.{IsLawful}
+use Rattle.machine.specs.Follows.{goes_on_completing, goes_on_filling}
 use Rattle.machine.specs.Standing.{IsState}
+use Rattle.machine.specs.Statement.{max_rows}
 use Rattle.machine.specs.Step.{IsPlainStep, LaneRun, LaneStep, Run, Step}
 
 -- A step leads from such a state to such a state.
@@ -68,3 +76,38 @@ LaneStepsAreSteps = (s : State) (event : Event) (reply : Reply) (t : State) → 
 -- So is every run of one lane that begins as the program does.
 abbrev pub LaneRunsAreRuns : Type 0
 LaneRunsAreRuns = (number : ℕ) (history : List Entry) (t : State) → LaneRun number beginning history t → Run number beginning history t
+
+-- ---- commands
+
+-- Only a command is refused; a statement that isn't accepted is answered ERROR.
+abbrev pub OnlyCommandsAreRefused : Type 0
+OnlyCommandsAreRefused = (s : State) (path : List (List ℕ)) (reading : Reading) (refusal : Refusal) (t : State) → ¬ Step s (event.Said path reading) (Refused refusal) t
+
+-- How many rows have no new half.
+abbrev pub unfilled_rows : State → ℕ
+unfilled_rows s = sum_by (λ table. count_by (λ row. is_none row.halves.new) table.1) s.tables
+
+-- A batch that fills rows leaves fewer of them.
+abbrev pub BatchesLeaveFewer : Type 0
+BatchesLeaveFewer = (s : State) (n : ℕ) (reply : Reply) (t : State) → Step s (event.Fill n) reply t → IsState s → goes_on_filling reply ≡ true → unfilled_rows t < unfilled_rows s
+
+-- They are at most as many as there may be rows.
+abbrev pub UnfilledRowsAreFew : Type 0
+UnfilledRowsAreFew = (s : State) → IsState s → unfilled_rows s ≤ max_rows
+
+-- How many events `\complete` may come to: the steps that are left, or the one that is refused.
+abbrev pub steps_of : Kind → ℕ → ℕ
+steps_of kind.Nothing left = 3
+steps_of kind.Complete left = if left == 2 then 2 else 1
+steps_of kind.Rollback left = 1
+
+abbrev pub steps_due : State → ℕ
+steps_due s = steps_of s.kind s.left
+
+-- A step that isn't the last leaves fewer.
+abbrev pub StepsLeaveFewer : Type 0
+StepsLeaveFewer = (s : State) (reply : Reply) (t : State) → Step s event.Complete reply t → goes_on_completing reply ≡ true → steps_due t < steps_due s
+
+-- They are between one and three.
+abbrev pub StepsAreFew : Type 0
+StepsAreFew = (s : State) → (1 ≤ steps_due s) × (steps_due s ≤ 3)

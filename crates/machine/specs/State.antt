@@ -14,9 +14,6 @@ use Rattle.sql_base.specs.declared.values.Ty.TheVariants.{Bigint, Text}
 use Rattle.sql_base.specs.declared.values.Value.{Value}
 use Rattle.sql_base.specs.declared.values.Value.TheVariants.{Null}
 use Rattle.mig_lens.specs.Lens.{unfilled}
-use Rattle.mig_lens.specs.declared.columns.Cell.{Cell}
-use Rattle.mig_lens.specs.declared.columns.Cell.TheVariants.{Carry, Make, Still}
-use Rattle.sql_base.specs.declared.values.Value.TheVariants.{Null}
 use Rattle.mig_lens.specs.declared.columns.Lens.{Lens}
 use Rattle.mig_lens.specs.declared.columns.Side.{Side}
 use Rattle.mig_lens.specs.declared.columns.Side.TheVariants.{Old, New}

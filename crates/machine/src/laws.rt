@@ -1,5 +1,5 @@
 //! Laws of the machine, over its definitions alone. Each is the contract of a function that does nothing.
-ghost use Rattle.machine.specs.Laws.{StepsKeepStates, RunsReachStates, RefusalsChangeNothing, BegunHalvesAreMade, OldShowsOldHalves, PlainStepsAreSteps, LaneStepsAreSteps, LaneRunsAreRuns, StepsKeepLaws, RunsReachLawful};
+ghost use Rattle.machine.specs.Laws.{StepsKeepStates, RunsReachStates, RefusalsChangeNothing, BegunHalvesAreMade, OldShowsOldHalves, PlainStepsAreSteps, LaneStepsAreSteps, LaneRunsAreRuns, StepsKeepLaws, RunsReachLawful, OnlyCommandsAreRefused, BatchesLeaveFewer, UnfilledRowsAreFew, StepsLeaveFewer, StepsAreFew};
 
 /// A step from a state that stands leads to one, and so does every run that begins as the program does: rows have
 /// their halves, which fit their shapes and have the row's key; rows ascend by key; schemas are well formed; the
@@ -42,4 +42,22 @@ pub fn lane_runs_are_runs()
 pub fn states_stay_lawful()
     ensures steps { StepsKeepLaws }
     ensures runs { RunsReachLawful }
+{}
+
+/// Only a command is refused; a statement that isn't accepted is answered an error.
+pub fn only_commands_are_refused()
+    ensures { OnlyCommandsAreRefused }
+{}
+
+/// A batch that fills rows leaves fewer rows that have no new half, and in a state that stands there are at most
+/// 262,144 of these. So batch after batch comes to an end.
+pub fn batches_come_to_an_end()
+    ensures fewer { BatchesLeaveFewer }
+    ensures few { UnfilledRowsAreFew }
+{}
+
+/// A step of completing that isn't the last leaves fewer steps that may come, and there are at most three.
+pub fn completing_comes_to_an_end()
+    ensures fewer { StepsLeaveFewer }
+    ensures few { StepsAreFew }
 {}

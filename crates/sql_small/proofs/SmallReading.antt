@@ -1,9 +1,9 @@
 -- The reader finds just what a line says.
-use Rattle.std.proofs.Common.{◌≡◌, ℕ, ◌≤◌, Bool, true, false, List, [], ◌∷◌, length, refl, sym, ap, ◌∙◌, subst, arith, if◌then◌else◌}
+use Rattle.std.proofs.Common.{◌≡◌, ◌⊎◌, inl, inr, ℕ, ◌≤◌, Bool, true, false, List, [], ◌∷◌, length, refl, sym, ap, ◌∙◌, subst, arith, if◌then◌else◌}
 use Rattle.std.specs.Prelude.{Option, Some, None, MatchOption, nat_le}
 use Rattle.std.proofs.lemmas.Option.{cond_some, option_and_then_some, same_Some}
 use Rattle.sql_base.specs.declared.stmts.Stmt.{Stmt}
-use Rattle.sql_small.specs.Small.{Ends, plainly, semicolon, max_line, Reads, ReadsOnce}
+use Rattle.sql_small.specs.Small.{Ends, plainly, semicolon, max_line, Reads, ReadsOnce, ReadsOrNot}
 use Rattle.sql_small.specs.SmallSteps.{◌>>=◌, after_sign, is_only_end, is_end_behind, is_end, stmt_in, ended, found_in}
 use Rattle.sql_small.proofs.SmallForms.{stmt_complete, stmt_sound}
 use Rattle.sql_small.proofs.SmallLists.{sign_sound}
@@ -71,8 +71,12 @@ pub found_is : (line : List ℕ) (o : Option Stmt) → found_in line ≡ o → I
 found_is line None e = λ stmt r. cc (found_complete line stmt r)
 found_is line (Some stmt) e = found_sound line stmt e
 
-pub found_in_reads : (line : List ℕ) → IsReading line (found_in line)
-found_in_reads line = found_is line (found_in line) refl
+pub reads_or_not : ReadsOrNot
+reads_or_not line = by_found (found_in line) refl
+  where
+    by_found : (found : Option Stmt) → found_in line ≡ found → ((stmt : Stmt) × Reads line stmt) ⊎ ((stmt : Stmt) → ¬ Reads line stmt)
+    by_found None e = inr (found_is line None e)
+    by_found (Some stmt) e = inl (stmt, found_is line (Some stmt) e)
 
 pub reads_once : ReadsOnce
 reads_once line a b p q = same_Some a b (sym (found_complete line a p) ∙ found_complete line b q)

@@ -1,5 +1,5 @@
 -- The statements that the small reader takes: a relation between the tokens of a line and the statement.
-use Rattle.std.specs.Prelude.{◌≡◌, ℕ, ◌<◌, ◌≤◌, ◌^◌, pos, neg_ℤ, List, [], ◌∷◌, ◌++◌, length, map, true, codes, None}
+use Rattle.std.specs.Prelude.{◌≡◌, ◌⊎◌, ℕ, ◌<◌, ◌≤◌, ◌^◌, pos, neg_ℤ, List, [], ◌∷◌, ◌++◌, length, map, true, codes, None}
 use Rattle.sql_base.specs.declared.exprs.Expr.{Expr}
 use Rattle.sql_base.specs.declared.exprs.Expr.TheVariants.{Lit, Col}
 use Rattle.sql_base.specs.declared.values.Value.TheVariants.{Int, Text}
@@ -76,3 +76,7 @@ pub record Reads (line : List ℕ) (stmt : Stmt) : Type 0 where
 -- a line is one statement at most
 abbrev pub ReadsOnce : Type 0
 ReadsOnce = (line : List ℕ) (a b : Stmt) → Reads line a → Reads line b → a ≡ b
+
+-- a line is a statement, or it is none
+abbrev pub ReadsOrNot : Type 0
+ReadsOrNot = (line : List ℕ) → ((stmt : Stmt) × Reads line stmt) ⊎ ((stmt : Stmt) → ¬ Reads line stmt)

@@ -7,7 +7,7 @@ mod marks;
 mod miss;
 mod small;
 
-pub use small::{a_text_reads_once, read};
+pub use small::{a_line_reads_or_not, a_text_reads_once, read};
 
 #[cfg(test)]
 mod tests;

@@ -1,7 +1,7 @@
 //! Lines.
 
 ghost use Rattle.std.specs.Prelude.{MatchOption, IfOk};
-ghost use Rattle.sql_small.specs.Small.{Reads, ReadsOnce};
+ghost use Rattle.sql_small.specs.Small.{Reads, ReadsOnce, ReadsOrNot};
 ghost use Rattle.sql_small.specs.SmallSteps as steps;
 
 use crate::forms::statement;
@@ -48,4 +48,9 @@ pub fn read(alloc: Global, line: &[u8]) -> Result<Option<Stmt>, NoMemory>
 /// The law that a line is one statement at most.
 pub fn a_text_reads_once()
     ensures { ReadsOnce }
+{}
+
+/// The law that a line is a statement, or is none.
+pub fn a_line_reads_or_not()
+    ensures { ReadsOrNot }
 {}
