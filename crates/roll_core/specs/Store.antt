@@ -6,7 +6,6 @@ use Rattle.std.specs.List.{AllByRecursion}
 use Rattle.std.specs.Option.{option_map}
 use Rattle.std.specs.Ordering.{int_cmp, match_ordering}
 use Rattle.sql_base.specs.declared.values.Value.{Value}
-use Rattle.mig_lens.specs.Layout.{layout}
 use Rattle.mig_lens.specs.Plan.{shape_numbered}
 use Rattle.machine.specs.declared.states.Halves.{Halves}
 use Rattle.machine.specs.declared.states.Kept.{Kept}
@@ -19,7 +18,7 @@ use Rattle.trigger_pair.specs.declared.pairs.Pair.{Pair}
 use Rattle.trigger_pair.specs.Laws.{IsPair}
 use Rattle.trigger_pair.specs.Rows.{IsFilledRow, IsPairedRow}
 use Rattle.trigger_pair.specs.Stored.{new_half, new_view, old_view}
-use Rattle.phase_steps.specs.Rows.{IsTrimmedRow, trimmed_view}
+use Rattle.phase_steps.specs.Rows.{IsTrimmedRow, pair_of, trimmed_view}
 use Rattle.roll_core.specs.declared.phases.Phase.{Phase}
 use Rattle.roll_core.specs.declared.phases.Phase.TheVariants.{Alone, Paired, Leaving, Trimmed}
 use Rattle.roll_core.specs.declared.store.StoredRow.{StoredRow}
@@ -63,12 +62,7 @@ meaning frame store = record frame { tables = map (table_meant (phase_of frame))
 
 -- The pair of a table that both versions have.
 abbrev pub pair_over : Shared → Pair
-pair_over both = record {
-  old = shape_of both.old;
-  new = shape_of both.new;
-  lens = both.lens;
-  layout = layout (shape_of both.old) (shape_of both.new) both.lens;
-}
+pair_over both = pair_of (shape_of both.old) (shape_of both.new) both.lens
 
 -- A table whose pair was left behind by the version that is gone: the standing version has its new shape.
 pub record HasFormerPair (frame : State) (table : StoredTable) : Type 0 where
