@@ -143,32 +143,6 @@ pub const WRITTEN: &[Row] = &[
         Wanted::Shown(&[(-2, ""), (1, "a"), (7, "xx")]),
         NO_TABLE,
     ),
-    // Listed items: each has a type before any row is looked at; a fault tells its row.
-    (
-        Said::Columns(COLUMNS),
-        Wanted::Shown(&[(-2, ""), (1, "a"), (7, "xx")]),
-        Wanted::Shown(&[(-2, ""), (1, "a"), (7, "xx")]),
-        NO_TABLE,
-    ),
-    (
-        Said::Columns(&["id", "age"]),
-        Wanted::Refused(Code::C42703, Some("age"), None),
-        Wanted::Shown(&[(-2, ""), (1, "a"), (7, "xx")]),
-        NO_TABLE,
-    ),
-    (
-        Said::Numbers,
-        Wanted::Refused(Code::C22P02, None, Some(-2)),
-        Wanted::Shown(&[(-2, ""), (1, "a"), (7, "xx")]),
-        NO_TABLE,
-    ),
-    // A path is set without a look at its names.
-    (
-        Said::Path(&["public_02_users"]),
-        Wanted::Set,
-        Wanted::Shown(&[(-2, ""), (1, "a"), (7, "xx")]),
-        NO_TABLE,
-    ),
     // A present key of a row that is too heavy.
     (
         Said::Row("users", COLUMNS, 4_085),
@@ -177,6 +151,46 @@ pub const WRITTEN: &[Row] = &[
         NO_TABLE,
     ),
 ];
+
+/// One that asks for listed items.
+pub const LISTED: &[Row] = &[
+    (
+        Said::Line(PATH, MINUS),
+        Wanted::Written,
+        MINUS_ROW,
+        NO_TABLE,
+    ),
+    // Listed items: each has a type before any row is looked at; a fault tells its row.
+    (Said::Columns(COLUMNS), MINUS_ROW, MINUS_ROW, NO_TABLE),
+    (
+        Said::Columns(&["id", "age"]),
+        Wanted::Refused(Code::C42703, Some("age"), None),
+        MINUS_ROW,
+        NO_TABLE,
+    ),
+    (
+        Said::Numbers,
+        Wanted::Refused(Code::C22P02, None, Some(-2)),
+        MINUS_ROW,
+        NO_TABLE,
+    ),
+    // A path is set without a look at its names.
+    (
+        Said::Path(&["public_02_users"]),
+        Wanted::Set,
+        MINUS_ROW,
+        NO_TABLE,
+    ),
+    // A row that is too heavy.
+    (
+        Said::Row("users", COLUMNS, 4_085),
+        Wanted::Refused(Code::C54000, Some("row"), Some(7)),
+        MINUS_ROW,
+        NO_TABLE,
+    ),
+];
+
+const MINUS_ROW: Wanted = Wanted::Shown(&[(-2, "")]);
 
 const NONE: Wanted = Wanted::Shown(&[]);
 
@@ -336,6 +350,7 @@ fn first_wrong(alloc: Global, session: &[Row]) -> Result<Option<usize>, NoMemory
 fn statements_are_answered_and_refused(rt: HostRuntime) -> Result<(), Fail> {
     assert_eq!(rt; first_wrong(rt.alloc(), REFUSED)?, None);
     assert_eq!(rt; first_wrong(rt.alloc(), WRITTEN)?, None);
+    assert_eq!(rt; first_wrong(rt.alloc(), LISTED)?, None);
     Ok(())
 }
 
