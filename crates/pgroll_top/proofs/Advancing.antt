@@ -68,6 +68,10 @@ entry_of old actor what reply = record { number = old.number + 1; actor = actor;
 abbrev pub lane_after : Lane → State → List (List ℕ) → Reply → Lane
 lane_after old core path reply = record { core = core; path = path; number = old.number + 1; refused = old.refused || refuses reply }
 
+-- What holds of its core holds of the lane after it.
+pub core_after : (P : State → Type 0) (mid new : Lane) (core : State) (path : List (List ℕ)) (reply : Reply) → new ≡ lane_after mid core path reply → P core → P new.core
+core_after P mid new core path reply is = subst P (sym (ap (λ (lane : Lane). lane.core) is))
+
 pub advances_one : (old : Lane) (actor : ℕ) (what : Event) (reply : Reply) (core : State) (path : List (List ℕ)) (new : Lane)
     → Step old.core what reply core → LaneStep old.core what reply core → path ≡ path_by old.path what reply → new ≡ lane_after old core path reply
     → Advances old new (entry_of old actor what reply ∷ [])

@@ -1,21 +1,13 @@
 -- What the one history says of each status.
-use Rattle.std.proofs.Common.{◌≡◌, ◌⊎◌, ℕ, Bool, true, false, ◌||◌, List, [], ◌∷◌, ◌++◌, Option, None, Some, Err, codes, refl, sym, ap, subst, ◌∙◌, append_assoc, append-nil, inl, inr, ⊎_elim, arith}
-use Rattle.std.specs.Prelude.{slice_index_or}
-use Rattle.std.specs.Io.KnownBytes.{Appends}
+use Rattle.std.proofs.Common.{◌≡◌, ◌⊎◌, ℕ, List, ◌++◌, Option, None, Some, Err, refl, ap, subst, ◌∙◌, append-nil, inl, inr, ⊎_elim, arith}
 use Rattle.sql_base.specs.declared.faults.ScriptFault.TheVariants.{Line as BadLine}
-use Rattle.mig_lens.specs.declared.faults.Refusal.{Refusal}
-use Rattle.mig_lens.specs.declared.faults.Refusal.TheVariants as refusal
 use Rattle.script_text.specs.Script.{script_of}
-use Rattle.machine.specs.declared.events.Reply.{Reply}
-use Rattle.machine.specs.declared.events.Reply.TheVariants as reply
-use Rattle.roll_core.specs.Lines.{numbered}
-use Rattle.pgroll_top.specs.Work.{actors, has_refusal, line_of, lines_of, refuses}
 use Rattle.pg_io.proofs.Known.{beyond_whole, within_passes}
 use Rattle.pgroll_top.specs.declared.ending.End.{End}
 use Rattle.pgroll_top.specs.declared.ending.End.TheVariants.{Done, Refused, Usage, ReadFault, InputTooLong, BadScript, WantOfMemory}
 use Rattle.machine.specs.declared.events.Entry.{Entry}
 use Rattle.pg_io.specs.Outside.{Known, Faulted, Quiet, PassesLimit, ReadsWhole, IsWithin, IsBeyond}
-use Rattle.pgroll_top.specs.Top.{DoesAll, DoesPart, IsForm, HasInput, HasBadLine, IsDone, Explains, TellsRefusal, Because, end_line, limit, status_of}
+use Rattle.pgroll_top.specs.Top.{DoesAll, DoesPart, IsForm, HasInput, HasBadLine, IsDone, Explains, Because, limit, status_of}
 
 either_way : {A B X : Type 0} → A ⊎ B → (A → X) → (B → X) → X
 either_way (inl a) f g = f a
@@ -123,57 +115,7 @@ module _ (words : List (List ℕ)) (input output : Known) (status : ℕ) where
   read_told (h, (history, inl (end, shown, because, inr cut))) = inr (inl cut.0)
   read_told (h, (history, inr breaks)) = inr (inl breaks.1)
 
--- ---- refusals are told
-
--- the line of an entry that was refused
-refusal_among : (h : List Entry) → has_refusal h ≡ true → (number : ℕ) × (actor : List ℕ) × (refusal : Refusal) × (front : List ℕ) × (rest : List ℕ) × (lines_of h ≡ front ++ (numbered number actor (reply.Refused refusal) ++ rest))
-refusal_among [] e = cc
-refusal_among (entry ∷ h) e = by_test (refusal_among h) (refuses entry.reply) refl e
-  where
-    of_reply : (answer : Reply) → entry.reply ≡ answer → refuses answer ≡ true → (number : ℕ) × (actor : List ℕ) × (refusal : Refusal) × (front : List ℕ) × (rest : List ℕ) × (lines_of (entry ∷ h) ≡ front ++ (numbered number actor (reply.Refused refusal) ++ rest))
-    of_reply (reply.Refused refusal) is t = (entry.number, slice_index_or actors entry.actor [], refusal, [], lines_of h, ap (λ answer. numbered entry.number (slice_index_or actors entry.actor []) answer ++ lines_of h) is)
-    of_reply (reply.Insert n) is t = cc
-    of_reply (reply.Select rows) is t = cc
-    of_reply reply.Set is t = cc
-    of_reply (reply.Error code name key) is t = cc
-    of_reply (reply.Start name) is t = cc
-    of_reply (reply.Fill table count first last) is t = cc
-    of_reply reply.Filled is t = cc
-    of_reply (reply.Complete step) is t = cc
-
-    by_test : (has_refusal h ≡ true → (number : ℕ) × (actor : List ℕ) × (refusal : Refusal) × (front : List ℕ) × (rest : List ℕ) × (lines_of h ≡ front ++ (numbered number actor (reply.Refused refusal) ++ rest)))
-        → (b : Bool) → refuses entry.reply ≡ b → (b || has_refusal h) ≡ true → (number : ℕ) × (actor : List ℕ) × (refusal : Refusal) × (front : List ℕ) × (rest : List ℕ) × (lines_of (entry ∷ h) ≡ front ++ (numbered number actor (reply.Refused refusal) ++ rest))
-    by_test there true is t = of_reply entry.reply refl is
-    by_test there false is t =
-        let later = there t in
-        (later.0, later.1, later.2, line_of entry ++ later.3, later.4, ap (λ z. line_of entry ++ z) later.5 ∙ sym (append_assoc (line_of entry) later.3 (numbered later.0 later.1 (reply.Refused later.2) ++ later.4)))
-
--- an end of status 1 has such a line
-refused_end : (words : List (List ℕ)) (input output : Known) (end : End) (h shown : List Entry) → Because words input end h shown → status_of end ≡ 1
-    → Appends output.before output.after (lines_of shown ++ end_line end) → TellsRefusal output
-refused_end words input output Done h shown b one written = absurd (omega (arith, one))
-refused_end words input output Refused h shown b one written =
-    let found = refusal_among h b.3 in
-    record {
-      number = found.0;
-      actor = found.1;
-      refusal = found.2;
-      before = found.3;
-      after = found.4;
-      written = subst (Appends output.before output.after) (append-nil (lines_of shown) ∙ ap lines_of b.2 ∙ found.5) written;
-    }
-refused_end words input output Usage h shown b one written = absurd (omega (arith, one))
-refused_end words input output ReadFault h shown b one written = absurd (omega (arith, one))
-refused_end words input output InputTooLong h shown b one written = absurd (omega (arith, one))
-refused_end words input output (BadScript number) h shown b one written = record {
-  number = 0;
-  actor = codes "control";
-  refusal = refusal.BadScript number;
-  before = [];
-  after = [];
-  written = subst (Appends output.before output.after) (ap (λ h. lines_of h ++ end_line (BadScript number)) b.3 ∙ sym (append-nil (end_line (BadScript number)))) written;
-}
-refused_end words input output WantOfMemory h shown b one written = absurd (omega (arith, one))
+-- ---- inputs with a bad line
 
 bad_within : (left : Option (List ℕ)) → HasBadLine left → IsWithin limit left
 bad_within None bad = bad
@@ -202,11 +144,6 @@ bad_ends words input (BadScript number) h shown b form bad never = inl refl
 bad_ends words input WantOfMemory h shown b form bad never = inr refl
 
 module _ (words : List (List ℕ)) (input output : Known) (status : ℕ) where
-  pub refused_cause : (h : List Entry) × Explains words input output status h → status ≡ 1 → TellsRefusal output
-  refused_cause (h, (history, inl (end, shown, because, inl closes))) e = refused_end words input output end h shown because (sym closes.0 ∙ e) closes.1
-  refused_cause (h, (history, inl (end, shown, because, inr cut))) e = absurd (omega (arith, cut.0))
-  refused_cause (h, (history, inr breaks)) e = absurd (omega (arith, breaks.1))
-
   pub complete_script : (h : List Entry) × Explains words input output status h → HasInput words → HasBadLine input.before → ¬ Faulted input → ¬ Faulted output → (status ≡ 1) ⊎ (status ≡ 6)
   complete_script (h, (history, inl (end, shown, because, inl closes))) form bad no_read no_write =
       ⊎_elim (λ e. inl (closes.0 ∙ e)) (λ e. inr (closes.0 ∙ e)) (bad_ends words input end h shown because form bad no_read)

@@ -1,12 +1,11 @@
 pub mod Advancing
 pub mod Causes
 pub mod Closing
-pub mod Emptying
 pub mod Following
 pub mod Joining
 pub mod Reading
+pub mod Refusals
 pub mod Repeating
-pub mod Steps
 pub mod Tasks
 pub mod Telling
 pub mod Working

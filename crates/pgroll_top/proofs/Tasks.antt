@@ -4,6 +4,7 @@ use Rattle.std.specs.Option.{option_map}
 use Rattle.mig_json.specs.declared.faults.JsonFault.{JsonFault}
 use Rattle.mig_json.specs.Migration.{FaultlessTextsAreRead}
 use Rattle.mig_json.specs.Reading.{text_fault}
+use Rattle.sql_small.specs.Small.{ReadsOrNot}
 use Rattle.script_text.specs.declared.lines.Line.{Line}
 use Rattle.script_text.specs.declared.lines.Line.TheVariants.{Text, Command}
 use Rattle.script_text.specs.declared.lines.Order.TheVariants as order
@@ -23,16 +24,16 @@ some_asked law text = by_fault (text_fault text) refl
     by_fault (Some fault) e = (NotRead (refusal_of fault), ap (option_map refusal_of) e)
 
 -- so does each line
-pub some_task : FaultlessTextsAreRead → (line : Line) → (one : Task) × IsTask line one
-some_task law (Text line) = let read = some_reading line in (task.Say read.0, read.1)
-some_task law (Command (order.Start text)) = let asked = some_asked law text in (task.Start asked.0, asked.1)
-some_task law (Command (order.Batch n)) = (task.Batch n, refl)
-some_task law (Command order.Fill) = (task.Fill, tt)
-some_task law (Command order.Complete) = (task.Complete, tt)
+pub some_task : FaultlessTextsAreRead → ReadsOrNot → (line : Line) → (one : Task) × IsTask line one
+some_task law reads (Text line) = let read = some_reading reads line in (task.Say read.0, read.1)
+some_task law reads (Command (order.Start text)) = let asked = some_asked law text in (task.Start asked.0, asked.1)
+some_task law reads (Command (order.Batch n)) = (task.Batch n, refl)
+some_task law reads (Command order.Fill) = (task.Fill, tt)
+some_task law reads (Command order.Complete) = (task.Complete, tt)
 
-pub some_tasks : FaultlessTextsAreRead → (lines : List Line) → (tasks : List Task) × AreTasks lines tasks
-some_tasks law [] = ([], tt)
-some_tasks law (line ∷ lines) = let first = some_task law line in let others = some_tasks law lines in (first.0 ∷ others.0, (first.1, others.1))
+pub some_tasks : FaultlessTextsAreRead → ReadsOrNot → (lines : List Line) → (tasks : List Task) × AreTasks lines tasks
+some_tasks law reads [] = ([], tt)
+some_tasks law reads (line ∷ lines) = let first = some_task law reads line in let others = some_tasks law reads lines in (first.0 ∷ others.0, (first.1, others.1))
 
 pub tasks_append : (lines more : List Line) (tasks later : List Task) → AreTasks lines tasks → AreTasks more later → AreTasks (lines ++ more) (tasks ++ later)
 tasks_append [] more [] later h k = k

@@ -22,7 +22,7 @@ use Rattle.pgroll_top.specs.declared.lanes.Lane.{Lane}
 use Rattle.pgroll_top.specs.Top.{CutAtLast}
 use Rattle.pgroll_top.specs.Work.{ReadsAs, IsShown, IsTask, FollowsLines, BeginsLines, first_path, has_refusal, lines_of, numbers}
 
--- What a reader finds in a line: the statement that stands there, or none where none does.
+-- What was found in a line: the statement that it is; or none, where it is none.
 abbrev pub IsReading : List ℕ → Option Stmt → Type 0
 IsReading line None = ReadsAs line Syntax
 IsReading line (Some stmt) = ReadsAs line (Read stmt)
@@ -47,7 +47,7 @@ pub record Advances (old new : Lane) (entries : List Entry) : Type 0 where
   pub path : new.path ≡ lane.path_after old.path entries
   pub refused : new.refused ≡ (old.refused || has_refusal entries)
 
--- The lines of these entries were written; or the last one was cut short by a fault; or the last entries' line perhaps wasn't written for want of memory.
+-- The lines of these entries were written; or the line of the last entry was cut short by a fault; or, for want of memory, the line of the last entry perhaps wasn't written.
 abbrev pub Tells : {T : Type 0} → Known → Result T Stop → List Entry → Type 0
 Tells output (Ok done) entries = Appends output.before output.after (lines_of entries) × Quiet output
 Tells output (Err WriteFault) entries = CutAtLast output entries

@@ -50,7 +50,7 @@ HasBadLine left = IsSomeAnd left (λ text. (length text ≤ limit) × ((number :
 abbrev pub DoesAll : Known → List Entry → Type 0
 DoesAll input history = (text : List ℕ) × IsInput input text × Follows history text
 
--- The same for the first part of the work; or nothing was done, and some front of the input was read, with no fault.
+-- The input was read to its end, and the history does the first part of its work; or nothing was done, and some front of the input was read, with no fault.
 abbrev pub DoesPart : Known → List Entry → Type 0
 DoesPart input history = ((text : List ℕ) × IsInput input text × Begins history text) ⊎ ((history ≡ []) × ReadsFront input.before input.after × Quiet input)
 
@@ -60,7 +60,7 @@ CutAtLast output history = (done : List Entry) × (last : Entry) × (history ≡
 
 -- ---- how a call ends
 
--- The line of an end; the end of the work itself has none. P21 is told as a refusal of control, of number 0, since no event came of it.
+-- The line of an end. Where all the work is done there is none. P21 is told as a refusal of control, of number 0, since no event came of it.
 abbrev pub end_line : End → List ℕ
 end_line Done = []
 end_line Refused = []
@@ -117,11 +117,19 @@ Explains words input output status history = IsHistory history × (Ends words in
 
 -- ---- what is told
 
--- A REFUSED line was written, of this refusal. (Of a sink that doesn't tell its bytes, it may be any bytes.)
+-- The last byte is a newline.
+abbrev pub EndsInNewline : List ℕ → Type 0
+EndsInNewline text = (front : List ℕ) × (text ≡ front ++ codes "\n")
+
+-- These are whole lines, or nothing.
+abbrev pub AreLines : List ℕ → Type 0
+AreLines text = (text ≡ []) ⊎ EndsInNewline text
+
+-- A line of control was written that says REFUSED, with this refusal: as the first line, or behind whole lines. (Of a sink that doesn't tell its bytes, it may be any bytes.)
 pub record TellsRefusal (output : Known) : Type 0 where
   pub number : ℕ
-  pub actor : List ℕ
   pub refusal : Refusal
   pub before : List ℕ
+  pub whole : AreLines before
   pub after : List ℕ
-  pub written : Appends output.before output.after (before ++ (numbered number actor (reply.Refused refusal) ++ after))
+  pub written : Appends output.before output.after (before ++ (numbered number (codes "control") (reply.Refused refusal) ++ after))

@@ -65,7 +65,7 @@ has_refusal history = list_any (λ entry. refuses entry.reply) history
 
 -- ---- what the lines of an input ask for
 
--- What a line reads as: the statement that stands there, or, where none does, no statement.
+-- What a line reads as: the statement that it is; or no statement, where it is none.
 abbrev pub ReadsAs : List ℕ → Reading → Type 0
 ReadsAs line (Read stmt) = Reads line stmt
 ReadsAs line Syntax = (stmt : Stmt) → ¬ Reads line stmt

@@ -108,5 +108,6 @@ pub fn top<S: Source, K: Sink>(alloc: Global, words: &[String], input: &mut S, o
     ensures input_later { S.faults input.old ≤ S.faults input.new }
     ensures out_later { K.faults out.old ≤ K.faults out.new }
 {
+    machine::laws::only_commands_are_refused();
     perform(alloc, words, input, out)
 }

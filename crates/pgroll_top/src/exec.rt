@@ -20,6 +20,7 @@ pub fn work<K: Sink>(alloc: Global, lines: &[Line], out: &mut K) -> Result<bool,
 {
     machine::laws::states_stand();
     mig_json::laws::texts_without_fault_are_migrations();
+    sql_small::a_line_reads_or_not();
     let mut lane = Lane::new(alloc)?;
     for line in lines {
         lane.serve(alloc, line, out)?;

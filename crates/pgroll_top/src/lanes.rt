@@ -136,6 +136,7 @@ fn answer(alloc: Global, core: &mut Core, path: &mut List<Name>, line: &[u8]) ->
     ensures { (reading : Reading) × ReadsAs line.now reading × Step core.old (Said path.old reading) result core.new
         × (path.new ≡ path_by path.old (Said path.old reading) result) }
 {
+    sql_small::a_line_reads_or_not();
     match sql_small::read(alloc, line) {
         Ok(found) => said(alloc, core, path, &found, line),
         Err(_) => bare(Code::C53200),
@@ -189,7 +190,7 @@ impl Lane {
         show(alloc, self.number, actor, reply, out)
     }
 
-    // Says a line, which a statement may be or not.
+    // Says a line. It may be a statement, or none.
     fn say<K: Sink>(&mut self, alloc: Global, line: &[u8], out: &mut K) -> Result<(), Stop>
         requires { self.old.number + 1 < 2 ^ 64 }
         ensures does { (reading : Reading) × ReadsAs line.now reading
@@ -235,6 +236,7 @@ impl Lane {
         ensures later { K.faults out.old ≤ K.faults out.new }
     {
         machine::laws::states_stand();
+        machine::laws::batches_come_to_an_end();
         'batches: loop {
             let reply = self.core.batch(FILL_BATCH);
             self.tell(alloc, "control", &reply, out)?;
@@ -251,6 +253,7 @@ impl Lane {
         ensures few { self.new.number ≤ self.old.number + 3 }
         ensures later { K.faults out.old ≤ K.faults out.new }
     {
+        machine::laws::completing_comes_to_an_end();
         'steps: loop {
             let reply = self.core.ddl(&Cmd::Complete)?;
             self.tell(alloc, "control", &reply, out)?;

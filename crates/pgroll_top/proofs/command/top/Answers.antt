@@ -1,4 +1,5 @@
-use Rattle.pgroll_top.proofs.Causes.{usage_cause, read_cause, write_cause, long_cause, complete, complete_long, complete_usage, complete_script, refused_cause, write_told, read_told}
+use Rattle.pgroll_top.proofs.Causes.{usage_cause, read_cause, write_cause, long_cause, complete, complete_long, complete_usage, complete_script, write_told, read_told}
+use Rattle.pgroll_top.proofs.Refusals.{refused_cause}
 use Rattle.pgroll_top.proofs.command.top.Goals as goal
 
 pub returns-clause-usage : goal.returns-clause-usage
@@ -29,7 +30,7 @@ pub returns-clause-read_told : goal.returns-clause-read_told
 returns-clause-read_told g c = read_told _ _ _ _ c.perform.ensures.history
 
 pub returns-clause-refused : goal.returns-clause-refused
-returns-clause-refused g c = refused_cause _ _ _ _ c.perform.ensures.history
+returns-clause-refused g c = refused_cause c.only_commands_are_refused.ensures _ _ _ _ c.perform.ensures.history
 
 pub returns-clause-complete_script : goal.returns-clause-complete_script
 returns-clause-complete_script g c = complete_script _ _ _ _ c.perform.ensures.history

@@ -3,7 +3,7 @@ use Rattle.pg_io.specs.Outside.{known}
 use Rattle.machine.specs.declared.events.Entry.{Entry}
 use Rattle.machine.specs.declared.events.Event.TheVariants as event
 use Rattle.machine.specs.Follows.{goes_on_completing}
-use Rattle.pgroll_top.proofs.Steps.{steps_due}
+use Rattle.machine.specs.Laws.{steps_due}
 use Rattle.pgroll_top.proofs.Repeating.{Repeats}
 use Rattle.pgroll_top.proofs.lanes.Lane.complete.Given as goal
 

@@ -3,8 +3,8 @@ use Rattle.pg_io.specs.Outside.{known}
 use Rattle.machine.specs.declared.events.Entry.{Entry}
 use Rattle.machine.specs.declared.events.Event.TheVariants as event
 use Rattle.machine.specs.Follows.{goes_on_filling}
+use Rattle.machine.specs.Laws.{unfilled_rows}
 use Rattle.machine.specs.Standing.{IsState}
-use Rattle.pgroll_top.proofs.Emptying.{unfilled_rows}
 use Rattle.pgroll_top.proofs.Repeating.{Repeats}
 use Rattle.pgroll_top.proofs.lanes.Lane.fill.Given as goal
 
