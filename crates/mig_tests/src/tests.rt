@@ -3,8 +3,8 @@ mod shown;
 
 use made::{migration, name, one, text, users};
 use mig_lens::{
-    Fate, Kind, Lens, Member, Migration, Op, Place, Plan, PlanFault, Refusal, Ways, backward,
-    forward, layout, plan,
+    Fate, Kind, Layout, Lens, Member, Migration, Op, Place, Plan, PlanFault, Refusal, Ways,
+    backward, forward, layout, plan,
 };
 use sql_base::{Code, Copying, Expr, List, Name, Shape, Value};
 use std::alloc::Global;
@@ -68,8 +68,7 @@ fn planned_users(alloc: Global, m: &Migration) -> Result<Plan, PlanFault> {
     plan(alloc, &users(alloc)?, 2, m)
 }
 
-fn planned(alloc: Global, plan: &Plan) -> Result<String, Fail> {
-    let plan = plan.copy(alloc)?;
+fn told(alloc: Global, plan: &Plan) -> Result<String, Fail> {
     let table = plan.schema.tables.get(0).ok_or("a table")?;
     let shape = shown::shape(alloc, &table.2)?;
     match plan.fates.get(0) {
@@ -81,16 +80,27 @@ fn planned(alloc: Global, plan: &Plan) -> Result<String, Fail> {
     }
 }
 
+fn planned(alloc: Global, plan: &Plan) -> Result<String, Fail> {
+    told(alloc, &plan.copy(alloc)?)
+}
+
 fn refused(alloc: Global, fault: &PlanFault) -> Result<String, Fail> {
     shown::fault(alloc, &fault.copy(alloc)?)
 }
 
-fn answered(alloc: Global, words: &str) -> Result<String, Fail> {
-    let m = migration(alloc, words)?.copy(alloc)?;
-    match planned_users(alloc, &m) {
+fn answer(alloc: Global, m: &Migration) -> Result<String, Fail> {
+    match planned_users(alloc, m) {
         Ok(plan) => planned(alloc, &plan),
         Err(fault) => refused(alloc, &fault),
     }
+}
+
+fn copied_answer(alloc: Global, m: &Migration) -> Result<String, Fail> {
+    answer(alloc, &m.copy(alloc)?)
+}
+
+fn answered(alloc: Global, words: &str) -> Result<String, Fail> {
+    copied_answer(alloc, &migration(alloc, words)?)
 }
 
 #[test]
@@ -236,6 +246,25 @@ fn halves(
     Ok((there, mirror))
 }
 
+/// With the new half before, if there is one.
+fn halves_since(
+    alloc: Global,
+    only: &Only,
+    half: &[Value],
+    last: &str,
+) -> Result<(String, String), Fail> {
+    if last == "-" {
+        return halves(alloc, only, half, None);
+    }
+    let before = row(alloc, "z", last)?;
+    halves(alloc, only, half, Some(before.as_slice()))
+}
+
+fn halves_of(alloc: Global, only: &Only, word: &str, last: &str) -> Result<(String, String), Fail> {
+    let half = row(alloc, word, "-")?;
+    halves_since(alloc, only, half.as_slice(), last)
+}
+
 fn halves_after(
     alloc: Global,
     words: &str,
@@ -243,12 +272,7 @@ fn halves_after(
     last: &str,
 ) -> Result<(String, String), Fail> {
     let only = only_table(alloc, words)?;
-    let half = row(alloc, word, "-")?;
-    if last == "-" {
-        return halves(alloc, &only, half.as_slice(), None);
-    }
-    let before = row(alloc, "z", last)?;
-    halves(alloc, &only, half.as_slice(), Some(before.as_slice()))
+    halves_of(alloc, &only, word, last)
 }
 
 #[test]
@@ -274,10 +298,17 @@ const LAYOUTS: &[(&str, &str)] = &[
     ),
 ];
 
-fn laid(alloc: Global, words: &str) -> Result<String, Fail> {
-    let only = only_table(alloc, words)?;
-    let found = layout(alloc, &only.old, &only.new, &only.lens)?;
+fn told_layout(alloc: Global, found: &Layout) -> Result<String, Fail> {
     shown::layout(alloc, &found.copy(alloc)?)
+}
+
+fn laid_out(alloc: Global, only: &Only) -> Result<String, Fail> {
+    let found = layout(alloc, &only.old, &only.new, &only.lens)?;
+    told_layout(alloc, &found)
+}
+
+fn laid(alloc: Global, words: &str) -> Result<String, Fail> {
+    laid_out(alloc, &only_table(alloc, words)?)
 }
 
 #[test]

@@ -160,15 +160,19 @@ fn defined(alloc: Global, word: &str, words: &str) -> Result<ColumnDef, Fail> {
     })
 }
 
+fn add_column(alloc: Global, table: &str, column: &str, words: &str) -> Result<Op, Fail> {
+    let table = name(alloc, table)?;
+    let column = defined(alloc, column, words)?;
+    let up = up(alloc, words)?;
+    Ok(Op::AddColumn { table, column, up })
+}
+
 /// `add_column`: table, column, `bigint` or `text`, and then `null`, `pk`, `unique`, `default=`, `check=NAME:` and `up=`
 /// as there are.
 fn added(alloc: Global, words: &str) -> Result<Op, Fail> {
     let (table, words) = words.split_once(' ').ok_or("no column")?;
     let (column, words) = words.split_once(' ').ok_or("no type")?;
-    let table = name(alloc, table)?;
-    let column = defined(alloc, column, words)?;
-    let up = up(alloc, words)?;
-    Ok(Op::AddColumn { table, column, up })
+    add_column(alloc, table, column, words)
 }
 
 fn operation(alloc: Global, words: &str) -> Result<Op, Fail> {
@@ -180,14 +184,17 @@ fn operation(alloc: Global, words: &str) -> Result<Op, Fail> {
     added(alloc, words)
 }
 
+fn operations(alloc: Global, words: &str) -> Result<List<Op>, Fail> {
+    let mut all = List::new(alloc);
+    for words in words.split("; ") {
+        all.push(operation(alloc, words)?)?;
+    }
+    Ok(all)
+}
+
 /// Operations, with `; ` between them. One of the single word `drop` drops `users`.
 pub fn migration(alloc: Global, words: &str) -> Result<Migration, Fail> {
-    let mut operations = List::new(alloc);
-    for words in words.split("; ") {
-        operations.push(operation(alloc, words)?)?;
-    }
-    Ok(Migration {
-        name: name(alloc, "02")?,
-        operations,
-    })
+    let name = name(alloc, "02")?;
+    let operations = operations(alloc, words)?;
+    Ok(Migration { name, operations })
 }
