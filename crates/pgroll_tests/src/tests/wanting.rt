@@ -133,6 +133,12 @@ fn is_sound(alloc: Global, core: &mut Core, row: &Row, before: Shown) -> bool {
     }
 }
 
+// Whether the versions show this. Where memory was wanting for the look, it is taken again.
+fn has_kept(alloc: Global, core: &mut Core, shown: Shown) -> bool {
+    matches!(shows(alloc, core, shown.0, shown.1), Ok(true))
+        || matches!(shows(alloc, core, shown.0, shown.1), Ok(true))
+}
+
 // The place of the first that isn't; at the end the versions show what they have to.
 fn first_wrong(alloc: Global, session: &[Row]) -> Result<Option<usize>, NoMemory> {
     let mut core = Core::fixed(alloc)?;
@@ -143,11 +149,11 @@ fn first_wrong(alloc: Global, session: &[Row]) -> Result<Option<usize>, NoMemory
         }
         before = (row.2, row.3);
     }
-    let kept = shows(alloc, &mut core, before.0, before.1)?;
+    let kept = has_kept(alloc, &mut core, before);
     Ok(if kept { None } else { Some(session.len()) })
 }
 
-// Where memory was wanting for the engine itself, or for the last look at it, there is nothing to look at.
+// Where memory was wanting for the engine itself, there is nothing to look at.
 fn none_wrong(alloc: Global, session: &[Row]) -> bool {
     match first_wrong(alloc, session) {
         Ok(wrong) => wrong.is_none(),
