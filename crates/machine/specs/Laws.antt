@@ -79,7 +79,7 @@ LaneRunsAreRuns = (number : ℕ) (history : List Entry) (t : State) → LaneRun 
 
 -- ---- commands
 
--- Only a command is refused; a statement that isn't accepted is answered ERROR.
+-- Only a command is refused: no statement is answered REFUSED.
 abbrev pub OnlyCommandsAreRefused : Type 0
 OnlyCommandsAreRefused = (s : State) (path : List (List ℕ)) (reading : Reading) (refusal : Refusal) (t : State) → ¬ Step s (event.Said path reading) (Refused refusal) t
 

@@ -44,7 +44,7 @@ pub fn states_stay_lawful()
     ensures runs { RunsReachLawful }
 {}
 
-/// Only a command is refused; a statement that isn't accepted is answered an error.
+/// Only a command is refused: no statement is answered with a refusal.
 pub fn only_commands_are_refused()
     ensures { OnlyCommandsAreRefused }
 {}
