@@ -9,7 +9,7 @@ use std::alloc::Global;
 
 // ---- calls
 
-/// An input, its output with ample memory, and the outputs where memory is wanting for one of its statements.
+/// An input, its output with ample memory, and the outputs where memory is wanting for one of its statements or batches.
 type Call = (&'static str, &'static str, &'static [&'static str]);
 
 const STATEMENTS: Call = (
@@ -40,7 +40,10 @@ const READ: Call = (
 const FILL: Call = (
     "INSERT INTO users (id, name) VALUES (1, 'a')\n\\start {\"name\":\"02\",\"operations\":[{\"add_column\":{\"table\":\"users\",\"column\":{\"name\":\"n\",\"type\":\"text\",\"nullable\":true},\"up\":\"name\"}}]}\n\\fill\n",
     "1 main INSERT 0 1\n2 control START public_02\n3 control FILL users 1 1 1\n4 control FILLED\n",
-    &["1 main ERROR 53200 - -\n2 control START public_02\n3 control FILLED\n"],
+    &[
+        "1 main ERROR 53200 - -\n2 control START public_02\n3 control FILLED\n",
+        "1 main INSERT 0 1\n2 control START public_02\n3 control ERROR 53200 - -\n",
+    ],
 );
 
 const COMPLETE: Call = (
