@@ -79,7 +79,7 @@ LaneRunsAreRuns = (number : ℕ) (history : List Entry) (t : State) → LaneRun 
 
 -- ---- commands
 
--- Only a command is refused: no statement is answered REFUSED.
+-- Only a command is answered REFUSED.
 abbrev pub OnlyCommandsAreRefused : Type 0
 OnlyCommandsAreRefused = (s : State) (path : List (List ℕ)) (reading : Reading) (refusal : Refusal) (t : State) → ¬ Step s (event.Said path reading) (Refused refusal) t
 
@@ -95,7 +95,7 @@ BatchesLeaveFewer = (s : State) (n : ℕ) (reply : Reply) (t : State) → Step s
 abbrev pub UnfilledRowsAreFew : Type 0
 UnfilledRowsAreFew = (s : State) → IsState s → unfilled_rows s ≤ max_rows
 
--- How many events `\complete` may come to: the steps that are left, or the one that is refused.
+-- At most how many events `\complete` may come to: all three steps, those that are left, or the one that is refused.
 abbrev pub steps_of : Kind → ℕ → ℕ
 steps_of kind.Nothing left = 3
 steps_of kind.Complete left = if left == 2 then 2 else 1

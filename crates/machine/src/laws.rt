@@ -44,12 +44,12 @@ pub fn states_stay_lawful()
     ensures runs { RunsReachLawful }
 {}
 
-/// Only a command is refused: no statement is answered with a refusal.
+/// Only a command is answered REFUSED.
 pub fn only_commands_are_refused()
     ensures { OnlyCommandsAreRefused }
 {}
 
-/// A batch that fills rows leaves fewer rows that have no new half, and in a state that stands there are at most
+/// In a state that stands a batch that fills rows leaves fewer rows that have no new half, and there are at most
 /// 262,144 of these. So batch after batch comes to an end.
 pub fn batches_come_to_an_end()
     ensures fewer { BatchesLeaveFewer }

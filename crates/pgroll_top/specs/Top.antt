@@ -125,7 +125,7 @@ EndsInNewline text = (front : List ℕ) × (text ≡ front ++ codes "\n")
 abbrev pub AreLines : List ℕ → Type 0
 AreLines text = (text ≡ []) ⊎ EndsInNewline text
 
--- A line of control was written that says REFUSED, with this refusal: as the first line, or behind whole lines. (Of a sink that doesn't tell its bytes, it may be any bytes.)
+-- A line of control was written that says REFUSED, with this refusal: as the first line, or behind whole lines. (Of a sink that doesn't tell its bytes this says nothing.)
 pub record TellsRefusal (output : Known) : Type 0 where
   pub number : ℕ
   pub refusal : Refusal

@@ -42,7 +42,7 @@ shadows_in lens row = take (length (filter is_shadow lens.new_cols)) (drop (leng
 abbrev pub trimmed : Lens → List Value → List Value
 trimmed lens row = carried_values lens.old_cols row ++ shadows_in lens row
 
--- Such a row holds the carried values of a value for each old column, and the shadow values of one for each new column.
+-- Such a row: of a value for each old column the carried ones, then of a value for each new column those that have a shadow place.
 abbrev pub trimmed_row : Pair → List Value → List Value → List Value
 trimmed_row pair old new = carried_values pair.lens.old_cols old ++ shadow_values pair.lens.new_cols new
 

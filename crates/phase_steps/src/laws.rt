@@ -6,21 +6,19 @@ pub fn leaving_rows_show_what_was_written()
     ensures { LeavingRowsShow }
 {}
 
-/// C1, C2 and C3 change nothing that the new version shows: C1 leaves stored rows as they are, C2 keeps what the view
-/// selects, and after C3 a row is just that.
+/// C2 and C3 change nothing that the new version shows: C2 keeps what the view selects, and after C3 a row is just that.
 pub fn completing_changes_no_view()
     ensures trimmed { TrimmingKeepsView }
     ensures ordered { CompletedRowsShow }
 {}
 
-/// B1 and B2 change nothing that the old version shows: B1 leaves stored rows as they are, and after B2 a row is just
-/// what its view selects.
+/// B2 changes nothing that the old version shows: a row is then just what its view selects.
 pub fn rolling_back_changes_no_view()
     ensures { RolledBackRowsShow }
 {}
 
-/// A row that is written between C1 and C2 is a filled row, as C1 finds every row. C2 leaves of such a row the carried
-/// values and the shadow values, and nothing else: the lost columns and the mark are gone.
+/// A row that is written between C1 and C2 is a filled row. C2 leaves of a filled row the carried values and the shadow
+/// values, and nothing else: the lost columns and the mark are gone.
 pub fn rows_are_stored_by_the_step()
     ensures leaving { LeavingRowsAreFilled }
     ensures trimmed { TrimmingLeavesTrimmed }

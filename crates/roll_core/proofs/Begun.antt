@@ -1,5 +1,5 @@
 -- START leaves stored rows that mean what the machine leaves.
-use Rattle.std.proofs.Common.{◌≡◌, ℕ, List, [], ◌∷◌, map, refl, ap, sym, subst, ◌∙◌, Bool, true, Option, Some, None, Ok, option_map, if◌then◌else◌}
+use Rattle.std.proofs.Common.{◌≡◌, ℕ, List, [], ◌∷◌, map, refl, ap, sym, subst, ◌∙◌, Bool, true, false, inl, inr, Option, Some, None, Ok, option_map, if◌then◌else◌}
 use Rattle.std.specs.Prelude.{nat_eq}
 use Rattle.std.specs.List.{AllByRecursion, list_any}
 use Rattle.std.specs.Option.{option_and_then, option_map_or, option_or}
@@ -33,7 +33,8 @@ use Rattle.machine.proofs.Moving.{numbers_kept}
 use Rattle.machine.proofs.Pairs.{pair_stands}
 use Rattle.machine.proofs.Starting.{started_stands}
 use Rattle.trigger_pair.specs.declared.pairs.Pair.{Pair}
-use Rattle.trigger_pair.specs.Laws.{BeginningIsPaired, BegunRowsHold, IsPair}
+use Rattle.trigger_pair.specs.Laws.{BeginningLeaves, BegunRowsHold, IsPair}
+use Rattle.trigger_pair.specs.Rows.{IsBegunRow, IsPairedRow}
 use Rattle.trigger_pair.specs.Stored.{begun, new_half, new_view}
 use Rattle.roll_core.specs.declared.phases.Phase.{Phase}
 use Rattle.roll_core.specs.declared.phases.Phase.TheVariants.{Alone, Paired}
@@ -49,7 +50,7 @@ use Rattle.roll_core.proofs.Showing.{old_fits}
 -- The laws of stored rows that START stands on.
 pub record BeginningHolds : Type 0 where
   pub shown : BegunRowsHold
-  pub paired : BeginningIsPaired
+  pub left : BeginningLeaves
 
 -- ---- one row
 
@@ -65,7 +66,11 @@ row_begun law both row is fit =
     ap f holds.old_shown ∙ ap g holds.mark ∙ ap k holds.new_shown
 
 row_is_stored : BeginningHolds → (both : Shared) (row : StoredRow) → IsPair (pair_over both) → row_fits (shape_of both.old) row.values ≡ true → IsStoredRow Paired (Some (pair_over both)) (begun_stored (Some (pair_over both)) row)
-row_is_stored law both row is fit = law.paired (pair_over both) row.values is fit
+row_is_stored law both row is fit = is_paired (pair_over both).layout.mark (law.left (pair_over both) row.values is fit)
+  where
+    is_paired : (mark : Bool) → IsBegunRow mark (pair_over both) (begun (pair_over both) row.values) → IsPairedRow (pair_over both) (begun (pair_over both) row.values)
+    is_paired true unfilled = inr unfilled
+    is_paired false filled = inl filled
 
 -- ---- the rows of a table
 

@@ -1,5 +1,5 @@
 -- Each answer of a call is a step of the machine.
-use Rattle.std.proofs.Common.{◌≡◌, ℕ, List, Result, Ok, Err, refl, sym, ap, subst, inl, inr}
+use Rattle.std.proofs.Common.{◌≡◌, ℕ, List, [], Result, Ok, Err, refl, sym, ap, subst, inl, inr}
 use Rattle.machine.specs.declared.events.Event.{Event}
 use Rattle.machine.specs.declared.events.Event.TheVariants as event_of
 use Rattle.machine.specs.declared.events.Reading.TheVariants.{Stmt as Read}
@@ -45,7 +45,7 @@ pub said_stored : StepsKeepStates → (frame : State) (old new : List StoredTabl
 said_stored law frame old new path stmt result stored h tables =
     let s = meaning frame old in
     let t = meaning frame new in
-    record { stands = answer_stands law s t (event_of.Said path (Read stmt)) (answer s path stmt) result (λ reply e. said_step s t path stmt reply e) stored.stands h; tables = tables }
+    record { once = stored.once; stands = answer_stands law s t (event_of.Said path (Read stmt)) (answer s path stmt) result (λ reply e. said_step s t path stmt reply e) stored.stands h; tables = tables }
 
 -- ---- batches
 
@@ -57,7 +57,7 @@ pub filled_stored : PlainStepsAreSteps → StepsKeepStates → (frame : State) (
 filled_stored plain law frame old new n result stored h tables =
     let s = meaning frame old in
     let t = meaning frame new in
-    record { stands = answer_stands law s t (event_of.Fill n) (as_outcome (least_fill s n)) result (λ reply e. filled_step plain s t n reply stored.stands e) stored.stands h; tables = tables }
+    record { once = stored.once; stands = answer_stands law s t (event_of.Fill n) (as_outcome (least_fill s n)) result (λ reply e. filled_step plain s t n reply stored.stands e) stored.stands h; tables = tables }
 
 pub comes_to : (s t : State) (outcome : Outcome) (result : Result Reply (Stop Reply)) → Answers s outcome result t → ComesToOrNoMemory s outcome (reply_of result) t
 comes_to s t outcome (Ok reply) h = inl (comes s t outcome reply h)
@@ -81,11 +81,11 @@ command_step s t (Start asked) reply e = comes s t (as_outcome (command_outcome 
 command_step s t Complete reply e = comes s t (as_outcome (command_outcome s Complete)) reply (ap as_outcome e)
 
 pub command_stored : StepsKeepStates → (frame new_frame : State) (old new : List StoredTable) (cmd : Cmd) (result : Result Reply (Stop Refusal)) → IsStored frame old
-    → Answers (meaning frame old) (command_outcome (meaning frame old) cmd) result (meaning new_frame new) → AreStored new_frame new → IsStored new_frame new
-command_stored law frame new_frame old new cmd result stored h tables =
+    → Answers (meaning frame old) (command_outcome (meaning frame old) cmd) result (meaning new_frame new) → AreStored new_frame new → new_frame.tables ≡ [] → IsStored new_frame new
+command_stored law frame new_frame old new cmd result stored h tables once =
     let s = meaning frame old in
     let t = meaning new_frame new in
-    record { stands = answer_stands law s t (engine.event_of cmd) (command_outcome s cmd) result (λ reply e. command_step s t cmd reply e) stored.stands h; tables = tables }
+    record { once = once; stands = answer_stands law s t (engine.event_of cmd) (command_outcome s cmd) result (λ reply e. command_step s t cmd reply e) stored.stands h; tables = tables }
 
 pub refused_step : (s t : State) (cmd : Cmd) (refusal : Refusal) → command_outcome s cmd ≡ Err refusal → t ≡ s → Step s (engine.event_of cmd) (Refused refusal) t
 refused_step s t (Start asked) refusal e same = refused s t (as_outcome (command_outcome s (Start asked))) (Refused refusal) (ap as_outcome e) same

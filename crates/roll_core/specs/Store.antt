@@ -26,6 +26,7 @@ use Rattle.roll_core.specs.declared.store.StoredTable.{StoredTable}
 
 -- ---- the phase, which says by which layout rows are stored
 
+-- (So far nothing is rolled back.)
 abbrev pub calm_phase : ℕ → Phase
 calm_phase left = if left == 0 then Alone else (if left == 2 then Leaving else Trimmed)
 
@@ -64,7 +65,7 @@ meaning frame store = record frame { tables = map (table_meant (phase_of frame))
 abbrev pub pair_over : Shared → Pair
 pair_over both = pair_of (shape_of both.old) (shape_of both.new) both.lens
 
--- A table whose pair was left behind by the version that is gone: the standing version has its new shape.
+-- A table whose pair was left behind by the version that is gone: the standing version has the pair's new shape.
 pub record HasFormerPair (frame : State) (table : StoredTable) : Type 0 where
   pub pair : Pair
   pub has : table.pair ≡ Some pair
@@ -92,8 +93,9 @@ pub record IsStoredTable (frame : State) (table : StoredTable) : Type 0 where
 abbrev pub AreStored : State → List StoredTable → Type 0
 AreStored frame store = AllByRecursion (IsStoredTable frame) store
 
--- What holds of the parts of every engine: they mean a state that stands, and the tables are stored by the phase.
+-- What holds of the parts of every engine: the frame has no rows of its own, the parts mean a state that stands, and the tables are stored by the phase.
 pub record IsStored (frame : State) (store : List StoredTable) : Type 0 where
+  pub once : frame.tables ≡ []
   pub stands : IsState (meaning frame store)
   pub tables : AreStored frame store
 

@@ -33,6 +33,7 @@ fn finish(alloc: Global, frame: &mut State, tables: &[StoredTable]) -> Result<Re
     requires stored { model.IsStored frame.old tables.now }
     requires calm { frame.old.kind ≡ kind.Nothing }
     ensures answers { engine.Answers (model.meaning frame.old tables.now) (migrate.complete (model.meaning frame.old tables.now)) result (model.meaning frame.new tables.now) }
+    ensures once { frame.new.tables ≡ [] }
     ensures stored { model.AreStored frame.new tables.now }
 {
     trigger_pair::laws::paired_rows_are_long();
@@ -151,6 +152,7 @@ fn tidied(
     requires stored { model.IsStored frame.old tables.old.items }
     requires left { frame.old.kind ≡ kind.Complete }
     ensures answers { engine.Answers (model.meaning frame.old tables.old.items) (migrate.complete (model.meaning frame.old tables.old.items)) result (model.meaning frame.new tables.new.items) }
+    ensures once { frame.new.tables ≡ [] }
     ensures stored { model.AreStored frame.new tables.new.items }
 {
     trigger_pair::laws::paired_rows_are_long();
@@ -176,6 +178,7 @@ pub fn complete(
 ) -> Result<Reply, Stop<Refusal>>
     requires { model.IsStored frame.old tables.old.items }
     ensures answers { engine.Answers (model.meaning frame.old tables.old.items) (migrate.complete (model.meaning frame.old tables.old.items)) result (model.meaning frame.new tables.new.items) }
+    ensures once { frame.new.tables ≡ [] }
     ensures stored { model.AreStored frame.new tables.new.items }
 {
     match frame.kind {

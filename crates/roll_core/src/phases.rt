@@ -13,7 +13,7 @@ pub enum Phase {
     Paired,
     /// The new version stands alone, with two steps of tidying left: still the pair's layout.
     Leaving,
-    /// One step is left: the lost columns and the mark are gone, and the places have their order of before.
+    /// One step is left: the lost columns and the mark are gone, and the places are in the order in which they were.
     Trimmed,
 }
 

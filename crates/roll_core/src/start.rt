@@ -1,5 +1,5 @@
 //! START.
-ghost use Rattle.std.specs.Prelude.{◌≡◌, IfOk, map};
+ghost use Rattle.std.specs.Prelude.{◌≡◌, [], IfOk, map};
 ghost use Rattle.std.specs.Option.{option_map};
 ghost use Rattle.machine.specs.Migrate as migrate;
 ghost use Rattle.machine.specs.Plain as plain;
@@ -102,6 +102,7 @@ pub fn start(
 ) -> Result<Reply, Stop<Refusal>>
     requires { model.IsStored frame.old tables.old.items }
     ensures answers { engine.Answers (model.meaning frame.old tables.old.items) (migrate.start (model.meaning frame.old tables.old.items) asked.now) result (model.meaning frame.new tables.new.items) }
+    ensures once { frame.new.tables ≡ [] }
     ensures stored { model.AreStored frame.new tables.new.items }
 {
     trigger_pair::laws::begun_rows_hold();

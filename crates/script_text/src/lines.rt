@@ -17,7 +17,7 @@ pub enum Order {
 /// A line that isn't passed by.
 #[derive(Debug, Drop)]
 pub enum Line {
-    /// A text that is to be said, which a statement may be or not.
+    /// A text that is to be said. It may be a statement, or none.
     Text(SqlBytes),
     /// A command.
     Command(Order),

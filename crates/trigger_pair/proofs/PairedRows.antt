@@ -1,5 +1,5 @@
 -- Which rows are stored by a pair's layout, and how long and marked they are.
-use Rattle.std.proofs.Common.{◌≡◌, ◌∙◌, ℕ, ◌+◌, inl, inr, List, [], ◌∷◌, ◌++◌, Bool, true, false, Option, None, Ok, length, map, ap, refl, sym}
+use Rattle.std.proofs.Common.{◌≡◌, ◌∙◌, ℕ, ◌+◌, List, [], ◌∷◌, ◌++◌, Bool, true, false, Option, None, Ok, length, map, ap, refl, sym}
 use Rattle.std.specs.List.{list_any}
 use Rattle.std.specs.Option.{option_and_then, option_map}
 use Rattle.std.proofs.lemmas.List.{length-map}
@@ -14,8 +14,8 @@ use Rattle.mig_lens.specs.Layout.{is_make}
 use Rattle.mig_lens.specs.Lens.{backward, forward, outcomes, unfilled, unfilled_value}
 use Rattle.mig_lens.proofs.MadeHalves.{and_then_ok, backward_fits, forward_fits}
 use Rattle.trigger_pair.specs.declared.pairs.Pair.{Pair}
-use Rattle.trigger_pair.specs.Laws.{BeginningIsPaired, FilledRowsAreLong, FillingFills, IsPair, NewWritesFill, OldWritesFill, UnfilledRowsAreBegun}
-use Rattle.trigger_pair.specs.Rows.{IsFilledRow, IsPairedRow}
+use Rattle.trigger_pair.specs.Laws.{BeginningLeaves, FilledRowsAreLong, FillingFills, IsPair, NewWritesFill, OldWritesFill, UnfilledRowsAreBegun}
+use Rattle.trigger_pair.specs.Rows.{IsBegunRow, IsFilledRow}
 use Rattle.trigger_pair.specs.Stored.{begun, from_old, mark_value, new_half, old_view, shadow_values, stored_row}
 use Rattle.trigger_pair.proofs.Halves.{columns_fit, columns_long, marked_where_marks_are, pair_long, unmarked}
 use Rattle.trigger_pair.proofs.Places.{mark_of_row, old_of_row, stored_long}
@@ -66,12 +66,12 @@ begun_without_mark pair old p fit unmade =
       is = ap (λ mark. old ++ shadow_values pair.lens.new_cols new ++ mark) same;
     }
 
-pub beginning_is_paired : BeginningIsPaired
-beginning_is_paired pair old p fit = by_mark pair.layout.mark refl
+pub beginning_leaves : BeginningLeaves
+beginning_leaves pair old p fit = by_mark pair.layout.mark refl
   where
-    by_mark : (mark : Bool) → pair.layout.mark ≡ mark → IsPairedRow pair (begun pair old)
-    by_mark true has = inr (record { old = old; fits = columns_fit pair.old old fit; mark = has; is = refl })
-    by_mark false none = inl (begun_without_mark pair old p fit none)
+    by_mark : (mark : Bool) → pair.layout.mark ≡ mark → IsBegunRow mark pair (begun pair old)
+    by_mark true has = record { old = old; fits = columns_fit pair.old old fit; mark = has; is = refl }
+    by_mark false none = begun_without_mark pair old p fit none
 
 -- ---- lengths and marks
 

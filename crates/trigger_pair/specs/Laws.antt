@@ -9,7 +9,7 @@ use Rattle.mig_lens.specs.Laws.{FitsBefore}
 use Rattle.mig_lens.specs.Layout.{layout}
 use Rattle.mig_lens.specs.Lens.{IsWellFormed, backward, fits, forward, unfilled}
 use Rattle.trigger_pair.specs.declared.pairs.Pair.{Pair}
-use Rattle.trigger_pair.specs.Rows.{IsFilledRow, IsPairedRow, IsUnfilledRow}
+use Rattle.trigger_pair.specs.Rows.{IsBegunRow, IsFilledRow, IsUnfilledRow}
 use Rattle.trigger_pair.specs.Stored.{begun, filled, fired, is_marked, new_half, new_view, old_view}
 
 -- A pair: two well-formed shapes, a lens that is well formed over them and fits them, and the layout that the three have.
@@ -58,7 +58,7 @@ OldWritesFill =
     (pair : Pair) (half stored : List Value) (before : Option (List Value)) → IsPair pair → row_fits pair.old half ≡ true → FitsBefore pair.new (option_and_then (new_half pair) before) → fired pair Old half before ≡ Ok stored →
     IsFilledRow pair stored
 
--- One through the new version does so, if the old half before fitted, where there was one.
+-- So does a write through the new version, if the old half before fitted, where there was one.
 abbrev pub NewWritesFill : Type 0
 NewWritesFill =
     (pair : Pair) (half stored : List Value) (before : Option (List Value)) → IsPair pair → row_fits pair.new half ≡ true → FitsBefore pair.old (option_map (old_view pair) before) → fired pair New half before ≡ Ok stored →
@@ -69,8 +69,8 @@ abbrev pub FillingFills : Type 0
 FillingFills = (pair : Pair) (before stored : List Value) → IsPair pair → row_fits pair.old (old_view pair before) ≡ true → filled pair before ≡ Ok stored → IsFilledRow pair stored
 
 -- START leaves rows that are still to be filled where the table has a mark, and filled ones elsewhere.
-abbrev pub BeginningIsPaired : Type 0
-BeginningIsPaired = (pair : Pair) (old : List Value) → IsPair pair → row_fits pair.old old ≡ true → IsPairedRow pair (begun pair old)
+abbrev pub BeginningLeaves : Type 0
+BeginningLeaves = (pair : Pair) (old : List Value) → IsPair pair → row_fits pair.old old ≡ true → IsBegunRow pair.layout.mark pair (begun pair old)
 
 -- A filled row has a value for each place of the layout, and isn't marked.
 abbrev pub FilledRowsAreLong : Type 0

@@ -1,5 +1,5 @@
 -- Which rows are stored by a pair's layout.
-use Rattle.std.specs.Prelude.{◌≡◌, ◌⊎◌, true, false, List}
+use Rattle.std.specs.Prelude.{◌≡◌, ◌⊎◌, Bool, true, false, List}
 use Rattle.sql_base.specs.declared.values.Value.{Value}
 use Rattle.sql_base.specs.Fit.{fits_columns}
 use Rattle.trigger_pair.specs.declared.pairs.Pair.{Pair}
@@ -26,6 +26,11 @@ pub record IsUnfilledRow (pair : Pair) (stored : List Value) : Type 0 where
   pub fits : fits_columns pair.old.columns old ≡ true
   pub mark : pair.layout.mark ≡ true
   pub is : stored ≡ begun pair old
+
+-- Where the table has a mark START leaves rows that are still to be filled, and elsewhere filled ones.
+abbrev pub IsBegunRow : Bool → Pair → List Value → Type 0
+IsBegunRow true pair stored = IsUnfilledRow pair stored
+IsBegunRow false pair stored = IsFilledRow pair stored
 
 -- While both versions stand each row is one or the other.
 abbrev pub IsPairedRow : Pair → List Value → Type 0

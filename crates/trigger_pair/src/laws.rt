@@ -1,5 +1,5 @@
 //! The laws of stored rows. Each is the contract of a function that does nothing.
-ghost use Rattle.trigger_pair.specs.Laws.{BeginningIsPaired, BegunRowsHold, FilledRowsAreLong, FilledRowsHold, FillingFills, NewWritesFill, NewWritesHold, OldWritesFill, OldWritesHold, UnfilledRowsAreBegun};
+ghost use Rattle.trigger_pair.specs.Laws.{BeginningLeaves, BegunRowsHold, FilledRowsAreLong, FilledRowsHold, FillingFills, NewWritesFill, NewWritesHold, OldWritesFill, OldWritesHold, UnfilledRowsAreBegun};
 
 /// After a write through a version the stored row shows through that version the half that was written, and through the
 /// other one what the lens makes of it and of the other half before. It isn't marked, and has a value for each place.
@@ -21,13 +21,14 @@ pub fn begun_rows_hold()
     ensures { BegunRowsHold }
 {}
 
-/// Writes and fills leave filled rows, and START leaves rows that are still to be filled where the layout has a mark, and
-/// filled ones elsewhere. So while both versions stand each stored row is one or the other.
+/// A write leaves a filled row, if the other half before fitted, where there was one; a fill leaves a filled row; and
+/// START leaves rows that are still to be filled where the layout has a mark, and filled ones elsewhere. So while both
+/// versions stand each stored row is filled or still to be filled.
 pub fn stored_rows_are_paired()
     ensures old { OldWritesFill }
     ensures new { NewWritesFill }
     ensures filling { FillingFills }
-    ensures begun { BeginningIsPaired }
+    ensures begun { BeginningLeaves }
 {}
 
 /// Such a row has a value for each place of the layout. It is marked exactly where it is still to be filled, and then it

@@ -29,7 +29,7 @@ const COLUMNS: &[&str] = &["id", "name"];
 
 const NOWHERE: Wanted = Wanted::Refused(Code::C42P01, Some("nowhere"), None);
 
-/// What a version shows that doesn't stand.
+/// What is answered through a version that doesn't stand.
 pub const NO_TABLE: Wanted = Wanted::Refused(Code::C42P01, Some("users"), None);
 
 const SYNTAX: Wanted = Wanted::Refused(Code::C42601, None, None);
@@ -160,7 +160,7 @@ pub const LISTED: &[Row] = &[
         MINUS_ROW,
         NO_TABLE,
     ),
-    // Listed items: each has a type before any row is looked at; a fault tells its row.
+    // Listed items: a fault tells its row.
     (Said::Columns(COLUMNS), MINUS_ROW, MINUS_ROW, NO_TABLE),
     (
         Said::Columns(&["id", "age"]),
@@ -196,11 +196,13 @@ const NONE: Wanted = Wanted::Shown(&[]);
 
 const B: Wanted = Wanted::Shown(&[(1, "b")]);
 
+const BOTH: Wanted = Wanted::Shown(&[(-2, ""), (1, "b")]);
+
 const UNFILLED: Wanted = Wanted::Shown(&[(1, NULL)]);
 
 const N: Wanted = Wanted::Shown(&[(2, "n")]);
 
-/// Migrations that add a column, each in its order. The first one is lived through; the others are short.
+/// Sessions with a migration that adds a column. The first one lives through it; the others are short.
 pub const MIGRATIONS: [&[Row]; 9] = [
     &[
         (Said::Line(PATH, OTHER), Wanted::Written, B, NO_TABLE),
@@ -274,8 +276,14 @@ pub const MIGRATIONS: [&[Row]; 9] = [
     ],
     &[
         (Said::Line(PATH, OTHER), Wanted::Written, B, NO_TABLE),
-        (Said::Start, Wanted::Started, B, UNFILLED),
-        (Said::Batch, Wanted::Filled(1), B, B),
+        (Said::Line(PATH, MINUS), Wanted::Written, BOTH, NO_TABLE),
+        (
+            Said::Start,
+            Wanted::Started,
+            BOTH,
+            Wanted::Shown(&[(-2, NULL), (1, NULL)]),
+        ),
+        (Said::Batch, Wanted::Filled(2), BOTH, BOTH),
     ],
     &[
         (Said::Line(PATH, OTHER), Wanted::Written, B, NO_TABLE),
@@ -296,11 +304,12 @@ pub const MIGRATIONS: [&[Row]; 9] = [
         ),
     ],
     &[
-        (Said::Start, Wanted::Started, NONE, NONE),
-        (Said::Batch, Wanted::Filled(0), NONE, NONE),
-        (Said::Complete, Wanted::Completed(1), NO_TABLE, NONE),
-        (Said::Complete, Wanted::Completed(2), NO_TABLE, NONE),
-        (Said::Complete, Wanted::Completed(3), NO_TABLE, NONE),
+        (Said::Line(PATH, OTHER), Wanted::Written, B, NO_TABLE),
+        (Said::Start, Wanted::Started, B, UNFILLED),
+        (Said::Batch, Wanted::Filled(1), B, B),
+        (Said::Complete, Wanted::Completed(1), NO_TABLE, B),
+        (Said::Complete, Wanted::Completed(2), NO_TABLE, B),
+        (Said::Complete, Wanted::Completed(3), NO_TABLE, B),
     ],
     &[
         (Said::Start, Wanted::Started, NONE, NONE),
@@ -335,7 +344,7 @@ fn is_answered(alloc: Global, core: &mut Core, row: &Row) -> Result<bool, NoMemo
     Ok(comes_to(&reply, row.1) && shows(alloc, core, row.2, row.3)?)
 }
 
-// The place of the first that isn't.
+// The place of the first row of a session that isn't answered so.
 fn first_wrong(alloc: Global, session: &[Row]) -> Result<Option<usize>, NoMemory> {
     let mut core = Core::fixed(alloc)?;
     for (at, row) in session.iter().enumerate() {

@@ -46,7 +46,7 @@ pub enum Wanted {
     NoMemory,
     /// The migration is started.
     Started,
-    /// So many rows of `users` are filled, or none is left where it is none.
+    /// So many rows are filled; where it is none, none was left.
     Filled(u32),
     /// This step of completing is done.
     Completed(u8),

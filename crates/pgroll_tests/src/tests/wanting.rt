@@ -1,4 +1,5 @@
-// What is answered where one allocation is refused, whichever it is: want of memory, with all as it was. These tests
+// What is answered where one allocation is refused, whichever it is: what is answered with ample memory, or want of
+// memory, with all as it was. These tests
 // pass with ample memory too; `rt try --test --fail-alloc N` runs them with the allocation of number N refused in each.
 use crate::tests::calls::{Told, call};
 use crate::tests::engine::{LISTED, MIGRATIONS, NO_TABLE, REFUSED, Row, WRITTEN, shows};
@@ -79,7 +80,8 @@ fn is_sound_call(told: &Told, wanted: &Call) -> bool {
     }
 }
 
-// Whether the call does so; where memory was wanting for the input itself, there is no call to look at.
+// Whether the call does so; where memory was wanting for its words, its input or the copy of its output, there is
+// nothing to look at.
 fn tells(alloc: Global, wanted: &Call) -> bool {
     match call(alloc, &["exec"], wanted.0.as_bytes(), &[], &[]) {
         Ok(told) => is_sound_call(&told, wanted),
@@ -136,13 +138,13 @@ fn is_sound(alloc: Global, core: &mut Core, row: &Row, before: Shown) -> bool {
     }
 }
 
-// Whether the versions show this. Where memory was wanting for the look, it is taken again.
+// Whether the versions show this. The look is taken again, since memory may be wanting for the first one.
 fn has_kept(alloc: Global, core: &mut Core, shown: Shown) -> bool {
     matches!(shows(alloc, core, shown.0, shown.1), Ok(true))
         || matches!(shows(alloc, core, shown.0, shown.1), Ok(true))
 }
 
-// The place of the first that isn't; at the end the versions show what they have to.
+// The place of the first row of a session that isn't sound; at the end the versions show what they have to.
 fn first_wrong(alloc: Global, session: &[Row]) -> Result<Option<usize>, NoMemory> {
     let mut core = Core::fixed(alloc)?;
     let mut before = (Wanted::Shown(&[]), NO_TABLE);

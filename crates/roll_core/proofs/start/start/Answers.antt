@@ -9,7 +9,7 @@ use Rattle.roll_core.proofs.start.start.Goals as goal
 
 pub returns-clause-answers : goal.returns-clause-answers
 returns-clause-answers c =
-    let law : BeginningHolds = record { shown = c.begun_rows_hold.ensures; paired = c.stored_rows_are_paired.ensures.begun } in
+    let law : BeginningHolds = record { shown = c.begun_rows_hold.ensures; left = c.stored_rows_are_paired.ensures.begun } in
     let frame = c.args.frame.now in
     let tables = c.args.tables.now.items in
     let done : start (meaning frame tables) c.args.asked.now ≡ Ok (c.in_ok-reply.reply, c.in_ok-reply.t) = ap (λ (s : State). start s c.args.asked.now) (sym (c.in_ok-s.ensures ∙ ap (meaning frame) c.deref.ensures.value)) ∙ c.in_ok-reply.ensures in
@@ -21,7 +21,7 @@ returns-clause-answers c =
 
 pub returns-clause-stored : goal.returns-clause-stored
 returns-clause-stored c =
-    let law : BeginningHolds = record { shown = c.begun_rows_hold.ensures; paired = c.stored_rows_are_paired.ensures.begun } in
+    let law : BeginningHolds = record { shown = c.begun_rows_hold.ensures; left = c.stored_rows_are_paired.ensures.begun } in
     let frame = c.args.frame.now in
     let tables = c.args.tables.now.items in
     let done : start (meaning frame tables) c.args.asked.now ≡ Ok (c.in_ok-reply.reply, c.in_ok-reply.t) = ap (λ (s : State). start s c.args.asked.now) (sym (c.in_ok-s.ensures ∙ ap (meaning frame) c.deref.ensures.value)) ∙ c.in_ok-reply.ensures in

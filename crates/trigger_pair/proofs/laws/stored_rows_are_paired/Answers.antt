@@ -1,4 +1,4 @@
-use Rattle.trigger_pair.proofs.PairedRows.{beginning_is_paired, filling_fills, new_writes_fill, old_writes_fill}
+use Rattle.trigger_pair.proofs.PairedRows.{beginning_leaves, filling_fills, new_writes_fill, old_writes_fill}
 use Rattle.trigger_pair.proofs.laws.stored_rows_are_paired.Goals as goal
 
 pub returns-clause-old : goal.returns-clause-old
@@ -11,4 +11,4 @@ pub returns-clause-filling : goal.returns-clause-filling
 returns-clause-filling c = filling_fills
 
 pub returns-clause-begun : goal.returns-clause-begun
-returns-clause-begun c = beginning_is_paired
+returns-clause-begun c = beginning_leaves
