@@ -1,0 +1,10 @@
+pub mod Accept
+pub mod Changes
+pub mod Causes
+pub mod Outcome
+pub mod Rows
+pub mod Settle
+pub mod Show
+pub mod Site
+pub mod Steps
+pub mod Words

@@ -1,0 +1,188 @@
+//! Why rows and statements aren't accepted.
+ghost use Rattle.std.specs.Prelude.{◌≡◌, IfOk, Some};
+ghost use Rattle.sql_base.specs.declared.faults.RowFault.TheVariants as RowFault;
+ghost use Rattle.row_rules.specs.Causes as spec;
+
+use crate::kinds::{Cause, SqlError, Table};
+use sql_base::{Code, EvalFault, Name, NoMemory, RowFault, Shape, TypeFault};
+use std::alloc::Global;
+
+fn fault_code(fault: EvalFault) -> Code
+    ensures { result ≡ spec.fault_code fault }
+{
+    match fault {
+        EvalFault::DivZero => Code::C22012,
+        EvalFault::Range => Code::C22003,
+        EvalFault::BadText => Code::C22P02,
+        EvalFault::TooLong => Code::C54000,
+        EvalFault::NoMemory => Code::C53200,
+    }
+}
+
+// A name, of these bytes.
+fn named(alloc: Global, bytes: &[u8]) -> Result<Option<Name>, NoMemory>
+    ensures { IfOk result (λ name. name ≡ Some bytes.now) }
+{
+    Ok(Some(Name::from_slice(alloc, bytes)?))
+}
+
+fn fault_name(alloc: Global, fault: EvalFault) -> Result<Option<Name>, NoMemory>
+    ensures { IfOk result (λ name. name ≡ spec.fault_name fault) }
+{
+    match fault {
+        EvalFault::TooLong => named(alloc, b"text"),
+        _ => Ok(None),
+    }
+}
+
+/// An expression has no value over the row of this key.
+pub fn value_cause(alloc: Global, key: i64, fault: EvalFault) -> Result<Cause, NoMemory>
+    ensures { IfOk result (λ cause. cause ≡ spec.value_cause key fault) }
+{
+    Ok(Cause {
+        code: fault_code(fault),
+        name: fault_name(alloc, fault)?,
+        key,
+    })
+}
+
+// The name of the column at this place.
+fn column_name(shape: &Shape, at: usize) -> &[u8]
+    ensures { result.now ≡ spec.column_name shape.now at }
+{
+    match shape.columns.as_slice().get(at) {
+        Some(column) => column.name.as_slice(),
+        None => b"",
+    }
+}
+
+// The name of the column's NOT NULL constraint.
+fn not_null_name(alloc: Global, table: &Table, at: usize) -> Result<Name, NoMemory>
+    ensures { IfOk result (λ name. name ≡ spec.not_null_name table.now at) }
+{
+    let mut name = Vec::from_slice(alloc, table.0.as_slice())?;
+    name.extend_from_slice(b"_")?;
+    name.extend_from_slice(column_name(&table.2, at))?;
+    name.extend_from_slice(b"_not_null")?;
+    Name::from_slice(alloc, name.as_slice())
+}
+
+/// NULL stands in the NOT NULL column at this place.
+pub fn null_cause(alloc: Global, table: &Table, key: i64, at: usize) -> Result<Cause, NoMemory>
+    ensures { IfOk result (λ cause. cause ≡ spec.row_cause table.now key (RowFault.Null at)) }
+{
+    Ok(Cause {
+        code: Code::C23502,
+        name: Some(not_null_name(alloc, table, at)?),
+        key,
+    })
+}
+
+/// A constraint or a limit isn't met by the row of this key.
+pub fn constraint_cause(alloc: Global, code: Code, name: &[u8], key: i64) -> Result<Cause, NoMemory>
+    ensures { IfOk result (λ cause. cause ≡ spec.constraint_cause code name.now key) }
+{
+    Ok(Cause {
+        code,
+        name: named(alloc, name)?,
+        key,
+    })
+}
+
+/// A half of the row of this key is too heavy.
+pub fn heavy_cause(alloc: Global, key: i64) -> Result<Cause, NoMemory>
+    ensures { IfOk result (λ cause. cause ≡ spec.heavy_cause key) }
+{
+    constraint_cause(alloc, Code::C54000, b"row", key)
+}
+
+/// Another row of the table has this key.
+pub fn taken_key(alloc: Global, table: &Table, key: i64) -> Result<Cause, NoMemory>
+    ensures { IfOk result (λ cause. cause ≡ spec.taken_key table.now key) }
+{
+    let mut constraint = Vec::from_slice(alloc, table.0.as_slice())?;
+    constraint.extend_from_slice(b"_pkey")?;
+    constraint_cause(alloc, Code::C23505, constraint.as_slice(), key)
+}
+
+// The name of the check at this place.
+fn check_name(shape: &Shape, at: u64) -> &[u8]
+    ensures { result.now ≡ spec.check_name shape.now at }
+{
+    match shape.checks.as_slice().get(at as usize) {
+        Some(check) => check.name.as_slice(),
+        None => b"",
+    }
+}
+
+/// A fault of a row of this table, with the constraint's name.
+pub fn row_cause(alloc: Global, table: &Table, key: i64, fault: RowFault) -> Result<Cause, NoMemory>
+    ensures { IfOk result (λ cause. cause ≡ spec.row_cause table.now key fault) }
+{
+    match fault {
+        RowFault::Null(at) => null_cause(alloc, table, key, at as usize),
+        RowFault::Check(at) => constraint_cause(alloc, Code::C23514, check_name(&table.2, at), key),
+        RowFault::Eval(at, fault) => {
+            constraint_cause(alloc, fault_code(fault), check_name(&table.2, at), key)
+        }
+    }
+}
+
+/// A cause that was found in a row, as why a statement is refused.
+pub fn row_error(cause: Cause) -> SqlError
+    ensures { result ≡ spec.row_error cause }
+{
+    SqlError {
+        code: cause.code,
+        name: cause.name,
+        key: Some(cause.key),
+    }
+}
+
+/// Something of this name is at fault, and no row.
+pub fn named_error(alloc: Global, code: Code, name: &[u8]) -> Result<SqlError, NoMemory>
+    ensures { IfOk result (λ error. error ≡ spec.named_error code name.now) }
+{
+    Ok(SqlError {
+        code,
+        name: named(alloc, name)?,
+        key: None,
+    })
+}
+
+/// Nothing is at fault that has a name.
+pub fn bare_error(code: Code) -> SqlError
+    ensures { result ≡ spec.bare_error code }
+{
+    SqlError {
+        code,
+        name: None,
+        key: None,
+    }
+}
+
+/// An expression has no type.
+pub fn untyped(fault: TypeFault) -> SqlError
+    ensures { result ≡ spec.untyped fault }
+{
+    match fault {
+        TypeFault::NoColumn(name) => SqlError {
+            code: Code::C42703,
+            name: Some(name),
+            key: None,
+        },
+        TypeFault::Mismatch => bare_error(Code::C42804),
+        TypeFault::NoMemory => bare_error(Code::C53200),
+    }
+}
+
+/// An expression has no value, and stands beside no row.
+pub fn no_value(alloc: Global, fault: EvalFault) -> Result<SqlError, NoMemory>
+    ensures { IfOk result (λ error. error ≡ spec.no_value fault) }
+{
+    Ok(SqlError {
+        code: fault_code(fault),
+        name: fault_name(alloc, fault)?,
+        key: None,
+    })
+}

@@ -1,0 +1,95 @@
+//! Rows that can be looked at one by one, however they are kept.
+ghost use Rattle.std.specs.Prelude.{◌≡◌, ◌<◌, Some, IfOk, is_none, length, slice_get, take};
+ghost use Rattle.std.specs.List.{filter, list_any};
+ghost use Rattle.std.specs.Option.{option_map};
+ghost use Rattle.std.specs.Ordering.{int_eq};
+
+ghost use Rattle.sql_eval.specs.Row.{least};
+ghost use Rattle.row_rules.specs.Rows.{missing_keys};
+ghost use Rattle.row_rules.specs.Site.{is_missing};
+
+use crate::kinds::Kept;
+use sql_base::{Copying, List, NoMemory};
+use std::alloc::Global;
+
+/// The rows of a table, place by place.
+pub trait TableRows {
+    ghost use Rattle.std.specs.Prelude.{List};
+    ghost use Rattle.row_rules.specs.declared.kinds.Kept.{Kept};
+
+    /// What the versions have of each row, in order.
+    ghost rows: { Self → List Kept };
+
+    /// The number of rows.
+    fn count(&self) -> usize
+        ensures { result ≡ length (rows self.now) };
+
+    /// The key of the row at a place.
+    fn key_at(&self, at: usize) -> i64
+        requires { at < length (rows self.now) }
+        ensures { option_map (λ row. row.key) (slice_get (rows self.now) at) ≡ Some result };
+
+    /// Whether the row at a place has no new half.
+    fn misses_at(&self, at: usize) -> bool
+        requires { at < length (rows self.now) }
+        ensures { option_map (λ row. is_none row.halves.new) (slice_get (rows self.now) at) ≡ Some result };
+
+    /// Whether a row has this key.
+    fn has_key(&self, key: i64) -> bool
+        ensures { result ≡ list_any (λ row. int_eq key row.key) (rows self.now) };
+
+    /// The row at a place. An error is want of memory.
+    fn row_at(&self, alloc: Global, at: usize) -> Result<Kept, NoMemory>
+        requires { at < length (rows self.now) }
+        ensures { IfOk result (λ row. slice_get (rows self.now) at ≡ Some row) };
+}
+
+impl TableRows for &[Kept] {
+    ghost rows = { λ rows. rows.now };
+
+    fn count(&self) -> usize {
+        self.len()
+    }
+
+    fn key_at(&self, at: usize) -> i64 {
+        self[at].key
+    }
+
+    fn misses_at(&self, at: usize) -> bool {
+        self[at].halves.new.is_none()
+    }
+
+    fn has_key(&self, key: i64) -> bool {
+        self.iter().any(|row| key == row.key)
+    }
+
+    fn row_at(&self, alloc: Global, at: usize) -> Result<Kept, NoMemory> {
+        self[at].copy(alloc)
+    }
+}
+
+/// Whether one of these rows is still to be filled.
+pub fn any_missing<T: TableRows>(rows: &T) -> bool
+    ensures { result ≡ list_any is_missing (T.rows rows.now) }
+{
+    for at in 0..rows.count() {
+        if rows.misses_at(at) {
+            return true;
+        }
+    }
+    false
+}
+
+/// The least key of the rows that are still to be filled.
+pub fn least_missing<T: TableRows>(rows: &T) -> Option<i64>
+    ensures { result ≡ least (missing_keys (T.rows rows.now)) }
+{
+    None
+}
+
+/// The first so many of the rows that are still to be filled.
+pub fn missing_rows<T: TableRows>(_alloc: Global, rows: &T, n: u32) -> Result<List<Kept>, NoMemory>
+    ensures { IfOk result (λ all. all ≡ take n (filter is_missing (T.rows rows.now))) }
+{
+    Err(NoMemory)
+}
