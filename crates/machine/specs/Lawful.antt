@@ -4,12 +4,11 @@
 use Rattle.std.specs.Prelude.{◌≡◌, ℕ, true, List, None}
 use Rattle.std.specs.List.{AllByRecursion}
 use Rattle.mig_lens.specs.declared.columns.Side.TheVariants.{Old, New}
-use Rattle.machine.specs.declared.states.Kept.{Kept}
+use Rattle.row_rules.specs.declared.kinds.Kept.{Kept}
 use Rattle.machine.specs.declared.states.State.{State}
-use Rattle.machine.specs.Accept.{clashes_on, side_cause, weight_cause}
+use Rattle.row_rules.specs.Accept.{clashes_on, keys_of, side_cause, weight_cause}
 use Rattle.machine.specs.State.{shared, table_on}
 use Rattle.machine.specs.Standing.{may_miss}
-use Rattle.machine.specs.Statement.{keys_of}
 
 -- The old half of the row has no fault; the new half has none in a table of which a new column has to be made; neither is too heavy.
 pub record IsLawfulRow (s : State) (number : ℕ) (row : Kept) : Type 0 where

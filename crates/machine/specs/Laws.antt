@@ -13,12 +13,13 @@ use Rattle.machine.specs.declared.events.Event.{Event}
 use Rattle.machine.specs.declared.events.Event.TheVariants as event
 use Rattle.machine.specs.declared.events.Reading.{Reading}
 use Rattle.machine.specs.declared.events.Reply.{Reply}
-use Rattle.machine.specs.declared.events.Reply.TheVariants.{Insert, Select, Set, Error, Start, Fill, Filled, Complete, Refused}
-use Rattle.machine.specs.declared.states.Kept.{Kept}
+use Rattle.machine.specs.declared.events.Reply.TheVariants.{Delete, Insert, Select, Update, Set, Error, Start, Fill, Filled, Complete, Refused}
+use Rattle.row_rules.specs.declared.kinds.Kept.{Kept}
 use Rattle.machine.specs.declared.states.State.{State}
 use Rattle.mig_lens.specs.Layout.{has_mark}
 use Rattle.mig_lens.specs.Lens.{forward, unfilled}
-use Rattle.machine.specs.State.{Found, beginning, shown}
+use Rattle.row_rules.specs.Site.{shown}
+use Rattle.machine.specs.State.{Found, beginning, site_of}
 use Rattle.machine.specs.Lawful.{IsLawful}
 use Rattle.machine.specs.Follows.{goes_on_completing, goes_on_filling}
 use Rattle.machine.specs.Standing.{IsState}
@@ -40,6 +41,8 @@ leaves_all (Refused refusal) = true
 leaves_all (Select rows) = true
 leaves_all Set = true
 leaves_all (Insert count) = false
+leaves_all (Update count) = false
+leaves_all (Delete count) = false
 leaves_all (Start name) = false
 leaves_all (Fill table count first last) = false
 leaves_all Filled = false
@@ -55,7 +58,7 @@ BegunHalvesAreMade = (lens : Lens) (old : Shape) (half : List Value) → has_mar
 
 -- What a row shows through the old version never depends on its new half.
 abbrev pub OldShowsOldHalves : Type 0
-OldShowsOldHalves = (s t : State) (found : Found) (row other : Kept) → found.side ≡ Old → row.halves.old ≡ other.halves.old → shown s found row ≡ shown t found other
+OldShowsOldHalves = (s t : State) (found : Found) (row other : Kept) → found.side ≡ Old → row.halves.old ≡ other.halves.old → shown (site_of s found) row.halves ≡ shown (site_of t found) other.halves
 
 -- In such a state the plain step is one of the machine's steps.
 abbrev pub PlainStepsAreSteps : Type 0

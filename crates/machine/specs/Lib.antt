@@ -1,4 +1,4 @@
-pub mod Accept
+pub mod Done
 pub mod Follows
 pub mod Lawful
 pub mod Laws
@@ -8,4 +8,4 @@ pub mod Standing
 pub mod State
 pub mod Statement
 pub mod Step
-pub mod Stops
+pub mod Words

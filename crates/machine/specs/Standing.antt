@@ -1,8 +1,8 @@
 -- Which states there are: what holds of every state that a run reaches.
 --
 -- The definitions of the machine say what happens in any state at all. In such a state they say just what their words say: tables stand in order of creation, rows in ascending key, and no name means two things.
-use Rattle.std.specs.Prelude.{◌≡◌, ◌⊎◌, ◌≤◌, ◌<◌, ℕ, ℤ, Bool, true, false, List, [], ◌∷◌, Option, Some, None, is_some, nat_eq}
-use Rattle.std.specs.List.{list_all, list_any}
+use Rattle.std.specs.Prelude.{◌≡◌, ◌⊎◌, ◌≤◌, ◌<◌, ℕ, ℤ, Bool, true, false, ◌==◌, List, [], ◌∷◌, Option, Some, None, is_some, nat_eq}
+use Rattle.std.specs.List.{AllByRecursion, list_all, list_any}
 use Rattle.std.specs.Option.{option_map_or}
 use Rattle.std.specs.Ordering.{int_cmp}
 use Rattle.std.specs.Str.{bytes_eq}
@@ -18,12 +18,13 @@ use Rattle.mig_lens.specs.declared.plans.Fate.{Fate}
 use Rattle.mig_lens.specs.Laws.{IsSchema, Joins}
 use Rattle.mig_lens.specs.Layout.{has_mark}
 use Rattle.mig_lens.specs.Plan.{Table, table_numbered}
-use Rattle.machine.specs.declared.states.Kept.{Kept}
+use Rattle.row_rules.specs.declared.kinds.Kept.{Kept}
 use Rattle.machine.specs.declared.states.Mode.{Mode}
 use Rattle.machine.specs.declared.states.Mode.TheVariants.{Calm, Both}
 use Rattle.machine.specs.declared.states.State.{State}
-use Rattle.machine.specs.State.{Shared, lens_among, number_of, row_count, shape_of, shared, table_on}
-use Rattle.machine.specs.Statement.{key_of, max_rows}
+use Rattle.row_rules.specs.Site.{key_of, number_of, shape_of}
+use Rattle.machine.specs.State.{Shared, lens_among, row_count, shared, table_on}
+use Rattle.machine.specs.Statement.{max_rows}
 use Rattle.machine.specs.Migrate.{numbers_of}
 
 -- ---- rows
@@ -109,6 +110,20 @@ StepsStand Nothing left = left ≡ 0
 StepsStand Complete left = (left ≡ 2) ⊎ (left ≡ 1)
 StepsStand Rollback left = left ≡ 1
 
+-- Whether rows may have lost weights: after the first step of completing or of rolling back, until the next one.
+abbrev pub may_lose : Kind → ℕ → Bool
+may_lose Nothing left = false
+may_lose Complete left = left == 2
+may_lose Rollback left = left == 1
+
+abbrev pub NoneLost : List Kept → Type 0
+NoneLost rows = AllByRecursion (λ row. row.lost ≡ 0) rows
+
+-- Nothing is lost: no column, and of no row any weight.
+pub record NothingLost (s : State) : Type 0 where
+  pub columns : s.lost_columns ≡ []
+  pub rows : AllByRecursion (λ table. NoneLost table.1) s.tables
+
 -- ---- the whole state
 
 pub record IsState (s : State) : Type 0 where
@@ -118,3 +133,4 @@ pub record IsState (s : State) : Type 0 where
   pub numbers : NumbersAscend (numbers_of s)
   pub tables : TablesStand s s.tables
   pub few : row_count s ≤ max_rows
+  pub lost : may_lose s.kind s.left ≡ false → NothingLost s

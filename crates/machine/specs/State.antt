@@ -1,42 +1,15 @@
 -- What a state holds, how a statement finds its table in it, and what a row shows.
 --
 -- A client sees the tables through a version. A version has a name and a schema: its tables, each with its name, its number and its shape. A table keeps its number in every version, while its name and its shape may differ. A statement carries a path: names of versions, each with public_ in front. While a migration is active two versions stand, the old side and the new side, and a row has a half for each version that has its table; in a table that both have, the new half may be missing until the row is filled. That both are usable meanwhile is pgroll's (its documentation, How pgroll works). While no migration is active one version stands, and it is the old side.
-use Rattle.std.specs.Prelude.{ℕ, ℤ, List, [], ◌∷◌, ◌++◌, ◌==◌, false, Option, Some, None, codes, find, is_none, length, map, sum_by, unwrap_or, if◌then◌else◌}
+use Rattle.std.specs.Prelude.{ℕ, ℤ, List, [], ◌∷◌, ◌++◌, ◌==◌, false, Option, Some, None, codes, find, length, map, sum_by, if◌then◌else◌}
 use Rattle.std.specs.List.{filter}
 use Rattle.std.specs.Option.{option_map, option_map_or, option_and_then, option_or}
 use Rattle.std.specs.Str.{bytes_eq}
-use Rattle.std.specs.Ordering.{int_cmp, match_ordering}
-use Rattle.sql_base.specs.declared.shapes.Column.{Column}
-use Rattle.sql_base.specs.declared.shapes.Schema.{Schema}
-use Rattle.sql_base.specs.declared.shapes.Shape.{Shape}
-use Rattle.sql_base.specs.declared.values.Ty.{Ty}
-use Rattle.sql_base.specs.declared.values.Ty.TheVariants.{Bigint, Text}
-use Rattle.sql_base.specs.declared.values.Value.{Value}
-use Rattle.sql_base.specs.declared.values.Value.TheVariants.{Null}
-use Rattle.mig_lens.specs.Lens.{unfilled}
-use Rattle.mig_lens.specs.declared.columns.Lens.{Lens}
-use Rattle.mig_lens.specs.declared.columns.Side.{Side}
-use Rattle.mig_lens.specs.declared.columns.Side.TheVariants.{Old, New}
-use Rattle.mig_lens.specs.declared.faults.Kind.TheVariants.{Nothing}
-use Rattle.mig_lens.specs.declared.plans.Fate.{Fate}
-use Rattle.mig_lens.specs.Plan.{Table, table_numbered, lens_in}
-use Rattle.machine.specs.declared.states.Halves.{Halves}
-use Rattle.machine.specs.declared.states.Kept.{Kept}
-use Rattle.machine.specs.declared.states.Mode.{Mode}
-use Rattle.machine.specs.declared.states.Mode.TheVariants.{Calm, Both}
-use Rattle.machine.specs.declared.states.State.{State}
+use Rattle.row_rules.specs.Rows as rows
+use Rattle.row_rules.specs.Site.{Beside, Site, name_of, number_of}
+use Rattle.machine.specs.Words.{Bigint, Both, Calm, Column, Fate, Kept, Lens, Mode, New, Nothing, Null, Old, Schema, Shape, Side, State, Table, Text, Ty, Value, lens_in, table_numbered}
 
 -- ---- versions and their tables
-
--- A table of a version is its name, its number and its shape.
-abbrev pub name_of : Table → List ℕ
-name_of table = table.0
-
-abbrev pub number_of : Table → ℕ
-number_of table = table.1
-
-abbrev pub shape_of : Table → Shape
-shape_of table = table.2
 
 -- The name by which a path names a version.
 abbrev pub path_name : List ℕ → List ℕ
@@ -107,24 +80,30 @@ shared s number =
     option_and_then (λ old. option_and_then (λ new. option_map (λ lens. record { old = old; new = new; lens = lens })
     (lens_between s.mode number)) (table_on s New number)) (table_on s Old number)
 
+-- ---- a table as a statement meets it
+
+abbrev pub beside_on : Side → Shared → Beside
+beside_on Old pair = record { table = pair.new; lens = pair.lens }
+beside_on New pair = record { table = pair.old; lens = pair.lens }
+
+-- How many columns of a table are lost with the version that is gone, while steps of tidying are left.
+abbrev pub lost_columns_of : State → ℕ → ℕ
+lost_columns_of s number = option_map_or (λ lost. lost.1) (find (λ lost. lost.0 == number) s.lost_columns) 0
+
+-- The site of a table that was found.
+abbrev pub site_of : State → Found → Site
+site_of s found = record {
+  side = found.side;
+  here = found.table;
+  there = option_map (beside_on found.side) (shared s (number_of found.table));
+  lost = lost_columns_of s (number_of found.table);
+}
+
+-- The site through which rows of a table that both versions have are filled: the new version's.
+abbrev pub filling_site : State → Shared → Site
+filling_site s pair = site_of s (record { side = New; table = pair.new })
+
 -- ---- rows
-
--- The half of a row that a side has.
-abbrev pub half : Side → Halves → Option (List Value)
-half Old halves = halves.old
-half New halves = halves.new
-
--- What the new version shows of a row whose new half is missing.
-abbrev pub shown_unfilled : Option Shared → Halves → List Value
-shown_unfilled pair halves = option_map_or (λ pair. unfilled pair.lens (unwrap_or halves.old [])) pair []
-
--- What a row of a table shows through a side: that side's half. (A half is missing only on the new side of a table that both versions have.)
-abbrev pub shown_by : Option Shared → Side → Halves → List Value
-shown_by pair Old halves = unwrap_or halves.old []
-shown_by pair New halves = unwrap_or halves.new (shown_unfilled pair halves)
-
-abbrev pub shown : State → Found → Kept → List Value
-shown s found row = shown_by (shared s (number_of found.table)) found.side row.halves
 
 -- The rows of the table of a number, in ascending key; no row where the state has no such table.
 abbrev pub rows_of : State → ℕ → List Kept
@@ -138,20 +117,9 @@ with_rows s number rows = record s { tables = map (λ table. if table.0 == numbe
 abbrev pub row_count : State → ℕ
 row_count s = sum_by (λ table. length table.1) s.tables
 
--- These rows, which ascend by key, with one more in its place. It replaces a row of an equal key.
-abbrev pub put_row : Kept → List Kept → List Kept
-put_row row [] = row ∷ []
-put_row row (first ∷ rows) = match_ordering (int_cmp row.key first.key) (row ∷ first ∷ rows) (row ∷ rows) (first ∷ put_row row rows)
-
--- These rows with some more, each put in its place.
-abbrev pub put_rows : List Kept → List Kept → List Kept
-put_rows [] rows = rows
-put_rows (row ∷ more) rows = put_rows more (put_row row rows)
-
 -- The keys of the rows of a table that are still to be filled, in ascending order. Only a table that both versions have has any.
 abbrev pub missing_keys : State → ℕ → List ℤ
-missing_keys s number =
-    option_map_or (λ pair. map (λ row. row.key) (filter (λ row. is_none row.halves.new) (rows_of s number))) (shared s number) []
+missing_keys s number = option_map_or (λ pair. rows.missing_keys (rows_of s number)) (shared s number) []
 
 -- ---- the state that a run begins with
 
@@ -173,4 +141,5 @@ beginning = record {
   kind = Nothing;
   next_table = 2;
   tables = (1, []) ∷ [];
+  lost_columns = [];
 }

@@ -1,37 +1,40 @@
 -- The machine: which reply it may give to an event, and which state it goes on to.
-use Rattle.std.specs.Prelude.{◌≡◌, ◌⊎◌, ◌≤◌, ℕ, ◌+◌, ℤ, List, [], ◌∷◌, Bool, Option, Some, None, Ok, Err, length}
+use Rattle.std.specs.Prelude.{◌≡◌, ◌≤◌, ◌⊎◌, ℕ, ◌+◌, ℤ, List, [], ◌∷◌, Bool, true, false, Option, Some, None, Result, Ok, Err, codes, length}
 use Rattle.std.specs.List.{filter}
-use Rattle.mig_lens.specs.declared.faults.Refusal.{Refusal}
 use Rattle.machine.specs.declared.events.Entry.{Entry}
-use Rattle.machine.specs.declared.events.Event.{Event}
-use Rattle.machine.specs.declared.events.Event.TheVariants.{Said, Start, Fill, Complete}
-use Rattle.machine.specs.declared.events.Reading.{Reading}
-use Rattle.machine.specs.declared.events.Reading.TheVariants.{Stmt as Read, Syntax}
-use Rattle.machine.specs.declared.events.Reply.{Reply}
-use Rattle.machine.specs.declared.events.Reply.TheVariants.{Filled, Refused}
-use Rattle.machine.specs.declared.states.State.{State}
+use Rattle.machine.specs.Done.{Outcome, Wrote, after_of, answered, as_outcome, reply_to, wrote_by}
+use Rattle.machine.specs.Migrate.{complete, fill_keys, least_fill, may_not_fill, start, unfilled_tables}
 use Rattle.machine.specs.State.{missing_keys}
-use Rattle.machine.specs.Statement.{Outcome, answer, syntax, no_memory}
-use Rattle.machine.specs.Migrate.{CommandOutcome, complete, fill_keys, least_fill, may_not_fill, start, unfilled_tables}
+use Rattle.machine.specs.Statement.{answer, no_memory, over_limit, syntax}
+use Rattle.machine.specs.Words.{C22003, Deep, Error, Event, Filled, Read, Reading, Refusal, Refused, Reply, State, Syntax, TooLong, Wide}
+use Rattle.machine.specs.Words.event
+
+-- ---- what an event comes to
+
+-- An integer literal is wider than 64 bits.
+abbrev pub wide_literal : Reply
+wide_literal = Error C22003 None None
 
 -- What a line comes to, said through this path.
 abbrev pub line_outcome : State → List (List ℕ) → Reading → Outcome
 line_outcome s path (Read stmt) = answer s path stmt
+line_outcome s path TooLong = Err (over_limit (codes "statement"))
 line_outcome s path Syntax = Err syntax
+line_outcome s path Wide = Err wide_literal
+line_outcome s path Deep = Err (over_limit (codes "depth"))
 
--- A refused command is answered its refusal.
-abbrev pub as_outcome : CommandOutcome → Outcome
-as_outcome (Ok done) = Ok done
-as_outcome (Err refusal) = Err (Refused refusal)
+-- What each event comes to without the free choices: memory is there, and a batch takes the least missing keys of the first table that has any.
+abbrev pub outcome_of : State → Event → Outcome
+outcome_of s (event.Said path reading) = line_outcome s path reading
+outcome_of s (event.Start asked) = as_outcome (start s asked)
+outcome_of s (event.Fill n) = as_outcome (least_fill s n)
+outcome_of s event.Complete = as_outcome (complete s)
 
--- What is accepted gives its reply and its state. What is refused gives its reply, and the state stays.
-abbrev pub ComesTo : State → Outcome → Reply → State → Type 0
-ComesTo s (Ok accepted) reply t = (reply ≡ accepted.0) × (t ≡ accepted.1)
-ComesTo s (Err refusal) reply t = (reply ≡ refusal) × (t ≡ s)
+-- The reply, what was written and the state afterwards are the outcome's.
+abbrev pub ComesTo : State → Outcome → Reply → Wrote → State → Type 0
+ComesTo s outcome reply wrote t = (reply ≡ reply_to outcome) × (wrote ≡ wrote_by outcome) × (t ≡ after_of s outcome)
 
--- The reply is want of memory, and nothing changed. Whether memory really was wanting isn't said.
-abbrev pub FindsNoMemory : State → Reply → State → Type 0
-FindsNoMemory s reply t = (reply ≡ no_memory) × (t ≡ s)
+-- ---- the free choices
 
 -- Some of the missing keys of a table, at least one and at most n.
 pub record Chosen (s : State) (n : ℕ) : Type 0 where
@@ -41,26 +44,45 @@ pub record Chosen (s : State) (n : ℕ) : Type 0 where
   pub few : length (filter chosen (missing_keys s number)) ≤ n
 
 -- Such rows are filled; or the batch is refused, with P19.
-abbrev pub Fills : State → ℕ → Reply → State → Type 0
-Fills s n reply t = (keys : Chosen s n) × ComesTo s (as_outcome (fill_keys s keys.number (filter keys.chosen (missing_keys s keys.number)))) reply t
+abbrev pub Fills : State → ℕ → Reply → Wrote → State → Type 0
+Fills s n reply wrote t =
+    (keys : Chosen s n) × ComesTo s (as_outcome (fill_keys s keys.number (filter keys.chosen (missing_keys s keys.number)))) reply wrote t
 
 -- FILLED comes exactly where no new half is missing. Else between 1 and n rows of one table, any of those whose new half is missing, are filled, or the batch is refused with P19.
-abbrev pub FillsSome : List ℕ → State → ℕ → Reply → State → Type 0
-FillsSome [] s n reply t = (reply ≡ Filled) × (t ≡ s)
-FillsSome (number ∷ numbers) s n reply t = Fills s n reply t
+abbrev pub FillsSome : List ℕ → State → ℕ → Reply → Wrote → State → Type 0
+FillsSome [] s n reply wrote t = ComesTo s (Ok (answered s Filled)) reply wrote t
+FillsSome (number ∷ numbers) s n reply wrote t = Fills s n reply wrote t
 
-abbrev pub FillStep : Option Refusal → State → ℕ → Reply → State → Type 0
-FillStep (Some refusal) s n reply t = (reply ≡ Refused refusal) × (t ≡ s)
-FillStep None s n reply t = FillsSome (unfilled_tables s) s n reply t
+abbrev pub FillStep : Option Refusal → State → ℕ → Reply → Wrote → State → Type 0
+FillStep (Some refusal) s n reply wrote t = ComesTo s (Err (Refused refusal)) reply wrote t
+FillStep None s n reply wrote t = FillsSome (unfilled_tables s) s n reply wrote t
 
--- From s the machine may give this reply to the event and go on to t.
+-- Which rows a batch takes is free. All else is determined.
+abbrev pub Comes : State → Event → Reply → Wrote → State → Type 0
+Comes s (event.Said path reading) reply wrote t = ComesTo s (outcome_of s (event.Said path reading)) reply wrote t
+Comes s (event.Start asked) reply wrote t = ComesTo s (outcome_of s (event.Start asked)) reply wrote t
+Comes s (event.Fill n) reply wrote t = FillStep (may_not_fill s n) s n reply wrote t
+Comes s event.Complete reply wrote t = ComesTo s (outcome_of s event.Complete) reply wrote t
+
+-- The events that may be answered want of memory, which is the one free reply: statements and batches. Whether memory really was wanting isn't said.
+abbrev pub may_want : Event → Bool
+may_want (event.Said path reading) = true
+may_want (event.Start asked) = false
+may_want (event.Fill n) = true
+may_want event.Complete = false
+
+-- The reply is want of memory, and nothing changed.
+abbrev pub FindsNoMemory : State → Event → Reply → Wrote → State → Type 0
+FindsNoMemory s event reply wrote t = (may_want event ≡ true) × ComesTo s (Err no_memory) reply wrote t
+
+-- ---- steps
+
+-- From s the machine may give this reply to the event, write this, and go on to t.
+abbrev pub Makes : State → Event → Reply → Wrote → State → Type 0
+Makes s event reply wrote t = Comes s event reply wrote t ⊎ FindsNoMemory s event reply wrote t
+
 abbrev pub Step : State → Event → Reply → State → Type 0
--- A line is answered what it comes to; or want of memory, which is the one free reply.
-Step s (Said path reading) reply t = ComesTo s (line_outcome s path reading) reply t ⊎ FindsNoMemory s reply t
-Step s (Start asked) reply t = ComesTo s (as_outcome (start s asked)) reply t
--- Which rows a batch takes is free, and so is want of memory.
-Step s (Fill n) reply t = FillStep (may_not_fill s n) s n reply t ⊎ FindsNoMemory s reply t
-Step s Complete reply t = ComesTo s (as_outcome (complete s)) reply t
+Step s event reply t = (wrote : Wrote) × Makes s event reply wrote t
 
 -- The machine may give these replies to these events, one step after another, from s to t. The first entry has this number, and each next one the next.
 abbrev pub Run : ℕ → State → List Entry → State → Type 0
@@ -69,24 +91,17 @@ Run number s (entry ∷ entries) t = (entry.number ≡ number) × (middle : Stat
 
 -- ---- the plain step
 
--- What an event comes to without the free choices: memory is there, and a batch takes the least missing keys of the first table that has any.
-abbrev pub plain_outcome : State → Event → Outcome
-plain_outcome s (Said path reading) = line_outcome s path reading
-plain_outcome s (Start asked) = as_outcome (start s asked)
-plain_outcome s (Fill n) = as_outcome (least_fill s n)
-plain_outcome s Complete = as_outcome (complete s)
-
 abbrev pub IsPlainStep : State → Event → State × Reply → Type 0
-IsPlainStep s event r = ComesTo s (plain_outcome s event) r.1 r.0
+IsPlainStep s event r = (r.1 ≡ reply_to (outcome_of s event)) × (r.0 ≡ after_of s (outcome_of s event))
 
 -- ---- one lane
 
 -- A step as one lane takes it: a batch takes the least missing keys of the first table that has any.
+abbrev pub LaneMakes : State → Event → Reply → Wrote → State → Type 0
+LaneMakes s event reply wrote t = ComesTo s (outcome_of s event) reply wrote t ⊎ FindsNoMemory s event reply wrote t
+
 abbrev pub LaneStep : State → Event → Reply → State → Type 0
-LaneStep s (Said path reading) reply t = Step s (Said path reading) reply t
-LaneStep s (Start asked) reply t = Step s (Start asked) reply t
-LaneStep s (Fill n) reply t = ComesTo s (as_outcome (least_fill s n)) reply t ⊎ FindsNoMemory s reply t
-LaneStep s Complete reply t = Step s Complete reply t
+LaneStep s event reply t = (wrote : Wrote) × LaneMakes s event reply wrote t
 
 -- One lane may go from s to t by these entries, one step after another. The first entry has this number, and each next one the next.
 abbrev pub LaneRun : ℕ → State → List Entry → State → Type 0

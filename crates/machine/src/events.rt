@@ -10,8 +10,14 @@ use std::alloc::Global;
 pub enum Reading {
     /// This statement.
     Stmt(Stmt),
+    /// It isn't read: it has more than 4,096 bytes.
+    TooLong,
     /// No statement.
     Syntax,
+    /// No statement: the first token that doesn't fit is an integer literal of more than 64 bits.
+    Wide,
+    /// A statement but for an expression in it that is deeper than the limit.
+    Deep,
 }
 
 /// What a migration's text reads as.
@@ -41,6 +47,10 @@ pub enum Event {
 pub enum Reply {
     /// So many rows were written.
     Insert(u32),
+    /// So many rows were updated.
+    Update(u32),
+    /// So many rows were deleted.
+    Delete(u32),
     /// These rows, each with the values that were asked for, in order.
     Select(List<List<Value>>),
     /// The path is set.
@@ -83,7 +93,10 @@ impl Copying for Reading {
     fn copy(&self, alloc: Global) -> Result<Reading, NoMemory> {
         match self {
             Reading::Stmt(stmt) => Ok(Reading::Stmt(stmt.copy(alloc)?)),
+            Reading::TooLong => Ok(Reading::TooLong),
             Reading::Syntax => Ok(Reading::Syntax),
+            Reading::Wide => Ok(Reading::Wide),
+            Reading::Deep => Ok(Reading::Deep),
         }
     }
 }
@@ -127,6 +140,8 @@ impl Copying for Reply {
     fn copy(&self, alloc: Global) -> Result<Reply, NoMemory> {
         match self {
             Reply::Insert(count) => Ok(Reply::Insert(*count)),
+            Reply::Update(count) => Ok(Reply::Update(*count)),
+            Reply::Delete(count) => Ok(Reply::Delete(*count)),
             Reply::Select(rows) => Ok(Reply::Select(rows.copy(alloc)?)),
             Reply::Set => Ok(Reply::Set),
             Reply::Error { code, name, key } => error_copy(alloc, *code, name, *key),

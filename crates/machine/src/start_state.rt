@@ -49,5 +49,6 @@ pub fn beginning(alloc: Global) -> Result<State, NoMemory>
         kind: Kind::Nothing,
         next_table: 2,
         tables,
+        lost_columns: List::new(alloc),
     })
 }

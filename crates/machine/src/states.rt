@@ -1,27 +1,8 @@
 //! The machine's states as plain data.
 use mig_lens::{Fate, Kind};
-use sql_base::{Copying, List, Name, NoMemory, Schema, Value};
+use row_rules::Kept;
+use sql_base::{Copying, List, Name, NoMemory, Schema};
 use std::alloc::Global;
-
-/// A row as the versions have it: the old version's half, the new one's, or both. While one version stands it has
-/// its old half alone.
-#[derive(Debug, Drop)]
-pub struct Halves {
-    /// The half that the old version shows.
-    pub old: Option<List<Value>>,
-    /// The half that the new version shows. In a table that both versions have it may be missing: then the row is
-    /// still to be filled.
-    pub new: Option<List<Value>>,
-}
-
-/// A row under its key.
-#[derive(Debug, Drop)]
-pub struct Kept {
-    /// The key.
-    pub key: i64,
-    /// What the versions have of it.
-    pub halves: Halves,
-}
 
 /// Whether a migration is active.
 #[derive(Drop)]
@@ -56,24 +37,9 @@ pub struct State {
     pub next_table: u32,
     /// Of each table its number and its rows: tables by ascending number, rows by ascending key.
     pub tables: List<(u32, List<Kept>)>,
-}
-
-impl Copying for Halves {
-    fn copy(&self, alloc: Global) -> Result<Halves, NoMemory> {
-        Ok(Halves {
-            old: self.old.copy(alloc)?,
-            new: self.new.copy(alloc)?,
-        })
-    }
-}
-
-impl Copying for Kept {
-    fn copy(&self, alloc: Global) -> Result<Kept, NoMemory> {
-        Ok(Kept {
-            key: self.key,
-            halves: self.halves.copy(alloc)?,
-        })
-    }
+    /// While steps of tidying are left, of each table that has any the number of columns that are lost with the version
+    /// that is gone: by ascending table number.
+    pub lost_columns: List<(u32, u32)>,
 }
 
 impl Copying for Mode {
@@ -103,6 +69,7 @@ impl Copying for State {
             kind: self.kind,
             next_table: self.next_table,
             tables: self.tables.copy(alloc)?,
+            lost_columns: self.lost_columns.copy(alloc)?,
         })
     }
 }

@@ -3,15 +3,15 @@ ghost use Rattle.std.specs.Prelude.{◌≡◌, ◌==◌, find};
 ghost use Rattle.std.specs.Option.{option_copied, option_map};
 ghost use Rattle.std.specs.Str.{bytes_eq};
 ghost use Rattle.mig_lens.specs.Plan.{lens_in, table_numbered};
+ghost use Rattle.row_rules.specs.Site as sites;
+ghost use Rattle.row_rules.specs.Site.{name_of};
 ghost use Rattle.machine.specs.State as spec;
 ghost use Rattle.machine.specs.Plain as plain;
 
-use crate::states::{Kept, Mode, State};
+use crate::states::{Mode, State};
 use mig_lens::{Fate, Lens, Side};
-use sql_base::{Name, Schema, Shape};
-
-/// A table of a version: its name, its number and its shape.
-pub type Table = (Name, u32, Shape);
+use row_rules::{BesideRef, Kept, SiteRef, Table};
+use sql_base::{Name, Schema};
 
 /// A version that stands: its side, and its tables.
 #[derive(Clone, Copy)]
@@ -77,7 +77,7 @@ fn version_called<'a>(s: &'a State, named: &Name) -> Option<VersionSeen<'a>>
 }
 
 fn table_named<'a>(schema: &'a Schema, name: &Name) -> Option<&'a Table>
-    ensures { option_copied result ≡ find (λ table. bytes_eq (spec.name_of table) name.now) schema.now.tables }
+    ensures { option_copied result ≡ find (λ table. bytes_eq (name_of table) name.now) schema.now.tables }
 {
     let tables = schema.tables.as_slice();
     tables
@@ -200,4 +200,52 @@ pub fn rows_of(s: &State, number: u32) -> &[Kept]
         }
     }
     &[]
+}
+
+/// What the other version has of a table that both have, seen from a side.
+fn beside_on<'a>(side: Side, pair: SharedTable<'a>) -> BesideRef<'a>
+    ensures { sites.beside_of result ≡ spec.beside_on side (plain.pair pair.entry) }
+{
+    match side {
+        Side::Old => BesideRef {
+            table: pair.new,
+            lens: pair.lens,
+        },
+        Side::New => BesideRef {
+            table: pair.old,
+            lens: pair.lens,
+        },
+    }
+}
+
+fn lost_in(lost: &[(u32, u32)], number: u32) -> Option<&(u32, u32)>
+    ensures { option_copied result ≡ find (λ lost. lost.0 == number) lost.now }
+{
+    lost.iter().find(|lost| lost.0 == number)
+}
+
+/// How many columns of the table of a number are lost with the version that is gone.
+pub fn lost_columns_of(s: &State, number: u32) -> u32
+    ensures { result ≡ spec.lost_columns_of s.now number }
+{
+    match lost_in(s.lost_columns.as_slice(), number) {
+        Some(lost) => lost.1,
+        None => 0,
+    }
+}
+
+/// The site of a table that was found.
+pub fn site_of<'a>(s: &'a State, found: FoundTable<'a>) -> SiteRef<'a>
+    ensures { sites.site_of result ≡ spec.site_of s.now (plain.found found.entry) }
+{
+    let there = match shared(s, found.table.1) {
+        Some(pair) => Some(beside_on(found.side, pair)),
+        None => None,
+    };
+    SiteRef {
+        side: found.side,
+        here: found.table,
+        there,
+        lost: lost_columns_of(s, found.table.1) as u64,
+    }
 }
