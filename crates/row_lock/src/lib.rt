@@ -1,0 +1,7 @@
+//! Who holds which rows: locks of open tickets on keys and on whole tables.
+#![tactic(auto)]
+
+mod finding;
+mod locks;
+
+pub use locks::{Lock, Locks, Reach};
