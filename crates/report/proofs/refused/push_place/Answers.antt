@@ -1,7 +1,7 @@
 use Rattle.std.proofs.Common.{◌++◌, ◌∙◌, ap, codes, decimal}
-use Rattle.roll_core.specs.Lines.{member_text}
-use Rattle.pgroll_top.proofs.Joining.{four_pushed, on_ok}
-use Rattle.pgroll_top.proofs.refused.push_place.Goals as goal
+use Rattle.report.specs.Lines.{member_text}
+use Rattle.report.proofs.Joining.{four_pushed, on_ok}
+use Rattle.report.proofs.refused.push_place.Goals as goal
 
 pub returns : goal.returns
 returns c =

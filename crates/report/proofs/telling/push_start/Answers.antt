@@ -1,6 +1,6 @@
 use Rattle.std.proofs.Common.{codes}
-use Rattle.pgroll_top.proofs.Joining.{four_pushed}
-use Rattle.pgroll_top.proofs.report.push_start.Goals as goal
+use Rattle.report.proofs.Joining.{four_pushed}
+use Rattle.report.proofs.telling.push_start.Goals as goal
 
 pub returns : goal.returns
 returns c =

@@ -1,7 +1,7 @@
 use Rattle.std.proofs.Common.{codes}
-use Rattle.roll_core.specs.Lines.{place_text}
-use Rattle.pgroll_top.proofs.Joining.{three_pushed, on_ok}
-use Rattle.pgroll_top.proofs.refused.push_placed.Goals as goal
+use Rattle.report.specs.Lines.{place_text}
+use Rattle.report.proofs.Joining.{three_pushed, on_ok}
+use Rattle.report.proofs.refused.push_placed.Goals as goal
 
 pub returns : goal.returns
 returns c =

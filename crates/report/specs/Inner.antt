@@ -2,7 +2,7 @@
 use Rattle.std.specs.Prelude.{ℕ, List, [], ◌∷◌, ◌++◌, codes}
 use Rattle.std.specs.List.{flat_map}
 use Rattle.sql_base.specs.declared.values.Value.{Value}
-use Rattle.roll_core.specs.Lines.{value_text}
+use Rattle.sql_text.specs.Printing.{value_text}
 
 -- the first value, and each next one behind a bar
 abbrev pub values_text : List Value → List ℕ

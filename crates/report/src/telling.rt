@@ -1,15 +1,17 @@
-//! The lines that tell a reply.
-ghost use Rattle.std.specs.Prelude.{◌≡◌, ◌++◌, codes, decimal, IfOk, OnOk, unwrap_or};
+//! The lines that tell a history.
+ghost use Rattle.std.specs.Prelude.{◌≡◌, ◌++◌, [], true, codes, decimal, IfOk, OnOk, length, nat_lt, slice_index_or, unwrap_or};
 ghost use Rattle.std.specs.Fmt.{signed_decimal};
-ghost use Rattle.std.specs.List.{flat_map};
+ghost use Rattle.std.specs.List.{flat_map, list_all};
 ghost use Rattle.std.specs.Option.{option_map_or};
-ghost use Rattle.roll_core.specs.Lines as spec;
-ghost use Rattle.pgroll_top.specs.Report.{values_text};
+ghost use Rattle.sql_text.specs.Printing.{value_text};
+ghost use Rattle.report.specs.Lines as spec;
+ghost use Rattle.report.specs.Inner.{values_text};
 
 use crate::refused::push_refusal;
-use machine::Reply;
+use machine::{Entry, Reply};
 use mig_lens::Refusal;
-use sql_base::{Code, List, Name, NoMemory, SqlText, Value};
+use sql_base::{Code, List, Name, NoMemory, SqlBytes, Value};
+use sql_text::print_value;
 use std::alloc::Global;
 
 /// A code, without the letter that its name begins with.
@@ -34,29 +36,6 @@ pub fn code_text(code: Code) -> &'static str
     }
 }
 
-// A byte of a text, with a backslash in front where it would be taken for something else.
-fn push_escaped(out: &mut Vec<u8>, byte: u8) -> Result<(), NoMemory>
-    ensures { OnOk result (out.new.items ≡ out.old.items ++ spec.escaped_byte byte) }
-{
-    match byte {
-        b'\\' => out.extend_from_slice(b"\\\\")?,
-        b'|' => out.extend_from_slice(b"\\|")?,
-        b'\n' => out.extend_from_slice(b"\\n")?,
-        b'\r' => out.extend_from_slice(b"\\r")?,
-        _ => out.push(byte)?,
-    }
-    Ok(())
-}
-
-fn push_text(out: &mut Vec<u8>, text: &SqlText) -> Result<(), NoMemory>
-    ensures { OnOk result (out.new.items ≡ out.old.items ++ flat_map spec.escaped_byte text.now) }
-{
-    for byte in text.as_str().as_bytes() {
-        push_escaped(out, *byte)?;
-    }
-    Ok(())
-}
-
 /// A number that may be below 0.
 pub fn push_int(out: &mut Vec<u8>, alloc: Global, n: i64) -> Result<(), NoMemory>
     ensures { OnOk result (out.new.items ≡ out.old.items ++ signed_decimal n) }
@@ -67,20 +46,15 @@ pub fn push_int(out: &mut Vec<u8>, alloc: Global, n: i64) -> Result<(), NoMemory
 }
 
 fn push_value(out: &mut Vec<u8>, alloc: Global, value: &Value) -> Result<(), NoMemory>
-    ensures { OnOk result (out.new.items ≡ out.old.items ++ spec.value_text value.now) }
+    ensures { OnOk result (out.new.items ≡ out.old.items ++ value_text value.now) }
 {
-    match value {
-        Value::Null => Ok(out.extend_from_slice(b"\\N")?),
-        Value::Int(n) => push_int(out, alloc, *n),
-        Value::Text(text) => push_text(out, text),
-        Value::Bool(true) => Ok(out.extend_from_slice(b"true")?),
-        Value::Bool(false) => Ok(out.extend_from_slice(b"false")?),
-    }
+    let text = print_value(alloc, value)?;
+    Ok(out.extend_from_slice(text.as_slice())?)
 }
 
 // Values, each behind a bar.
 fn push_barred(out: &mut Vec<u8>, alloc: Global, values: &[Value]) -> Result<(), NoMemory>
-    ensures { OnOk result (out.new.items ≡ out.old.items ++ flat_map (λ next. codes "|" ++ spec.value_text next) values.now) }
+    ensures { OnOk result (out.new.items ≡ out.old.items ++ flat_map (λ next. codes "|" ++ value_text next) values.now) }
 {
     for value in values {
         out.extend_from_slice(b"|")?;
@@ -174,10 +148,11 @@ fn push_select(out: &mut Vec<u8>, alloc: Global, rows: &[List<Value>]) -> Result
     push_rows(out, alloc, rows)
 }
 
-fn push_insert(out: &mut Vec<u8>, alloc: Global, count: u32) -> Result<(), NoMemory>
-    ensures { OnOk result (out.new.items ≡ out.old.items ++ spec.reply_text (Reply.Insert count)) }
+// A word, and a number of rows.
+fn push_tag(out: &mut Vec<u8>, alloc: Global, tag: &str, count: u32) -> Result<(), NoMemory>
+    ensures { OnOk result (out.new.items ≡ out.old.items ++ (tag.now ++ (decimal count ++ codes "\n"))) }
 {
-    out.extend_from_slice(b"INSERT 0 ")?;
+    out.extend_from_slice(tag.as_bytes())?;
     push_count(out, alloc, u64::from(count))?;
     Ok(out.extend_from_slice(b"\n")?)
 }
@@ -245,7 +220,9 @@ fn push_reply(out: &mut Vec<u8>, alloc: Global, reply: &Reply) -> Result<(), NoM
     ensures { OnOk result (out.new.items ≡ out.old.items ++ spec.reply_text reply.now) }
 {
     match reply {
-        Reply::Insert(count) => push_insert(out, alloc, *count),
+        Reply::Insert(count) => push_tag(out, alloc, "INSERT 0 ", *count),
+        Reply::Update(count) => push_tag(out, alloc, "UPDATE ", *count),
+        Reply::Delete(count) => push_tag(out, alloc, "DELETE ", *count),
         Reply::Select(rows) => push_select(out, alloc, rows.as_slice()),
         Reply::Set => Ok(out.extend_from_slice(b"SET\n")?),
         Reply::Error { code, name, key } => push_error(out, alloc, *code, name, *key),
@@ -262,15 +239,57 @@ fn push_reply(out: &mut Vec<u8>, alloc: Global, reply: &Reply) -> Result<(), NoM
     }
 }
 
+// The line of a reply with its number and the name of its actor, and the lines of its rows.
+fn push_line(
+    out: &mut Vec<u8>,
+    alloc: Global,
+    number: u64,
+    actor: &[u8],
+    reply: &Reply,
+) -> Result<(), NoMemory>
+    ensures { OnOk result (out.new.items ≡ out.old.items ++ spec.numbered number actor.now reply.now) }
+{
+    push_count(out, alloc, number)?;
+    out.extend_from_slice(b" ")?;
+    out.extend_from_slice(actor)?;
+    out.extend_from_slice(b" ")?;
+    push_reply(out, alloc, reply)
+}
+
 /// The line of a reply with its number and the name of its actor, and the lines of its rows.
 pub fn line_of(alloc: Global, number: u64, actor: &str, reply: &Reply) -> Result<Vec<u8>, NoMemory>
     ensures { IfOk result (λ line. line.items ≡ spec.numbered number actor.now reply.now) }
 {
     let mut out = Vec::new(alloc);
-    push_count(&mut out, alloc, number)?;
-    out.extend_from_slice(b" ")?;
-    out.extend_from_slice(actor.as_bytes())?;
-    out.extend_from_slice(b" ")?;
-    push_reply(&mut out, alloc, reply)?;
+    push_line(&mut out, alloc, number, actor.as_bytes(), reply)?;
     Ok(out)
+}
+
+// The name of the actor of an entry.
+fn actor_of<'a>(names: &'a [Name], entry: &Entry) -> &'a [u8]
+    ensures { result.now ≡ slice_index_or names.now entry.now.actor [] }
+{
+    match names.get(entry.actor as usize) {
+        Some(name) => name.as_slice(),
+        None => b"",
+    }
+}
+
+/// The lines of a history: of each entry its line and those of its rows. The actor of an entry is the place of its name
+/// among these names.
+pub fn lines(alloc: Global, history: &[Entry], names: &[Name]) -> Result<SqlBytes, NoMemory>
+    requires { list_all (λ entry. nat_lt entry.actor (length names.now)) history.now ≡ true }
+    ensures { IfOk result (λ text. text ≡ spec.lines_of names.now history.now) }
+{
+    let mut out = Vec::new(alloc);
+    for entry in history {
+        push_line(
+            &mut out,
+            alloc,
+            u64::from(entry.number),
+            actor_of(names, entry),
+            &entry.reply,
+        )?;
+    }
+    Ok(SqlBytes::from_vec(out))
 }

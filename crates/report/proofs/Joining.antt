@@ -2,8 +2,9 @@
 use Rattle.std.proofs.Common.{◌≡◌, OnOk, Result, Ok, Err, ℕ, List, [], ◌∷◌, ◌++◌, map, refl, ap, append-nil, append_assoc, codes, sym}
 use Rattle.std.specs.List.{flat_map, join_with_byte}
 use Rattle.sql_base.specs.declared.values.Value.{Value}
-use Rattle.roll_core.specs.Lines.{value_text, row_text}
-use Rattle.pgroll_top.specs.Report.{values_text}
+use Rattle.sql_text.specs.Printing.{value_text}
+use Rattle.report.specs.Lines.{row_text}
+use Rattle.report.specs.Inner.{values_text}
 
 -- the first piece, and then each next one behind the byte
 join_with_byte-cons : {X : Type 0} (c : ℕ) (f : X → List ℕ) (x : X) (xs : List X) → join_with_byte c (map f (x ∷ xs)) ≡ f x ++ flat_map (λ y. c ∷ f y) xs

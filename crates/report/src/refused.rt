@@ -1,9 +1,9 @@
 //! How a refused command is told.
 ghost use Rattle.std.specs.Prelude.{◌≡◌, ◌++◌, codes, decimal, OnOk};
 ghost use Rattle.std.specs.Fmt.{signed_decimal};
-ghost use Rattle.roll_core.specs.Lines as spec;
+ghost use Rattle.report.specs.Lines as spec;
 
-use crate::report::{code_text, push_count, push_int};
+use crate::telling::{code_text, push_count, push_int};
 use mig_lens::{Kind, Member, Place, Refusal};
 use sql_base::{Code, Name, NoMemory};
 use std::alloc::Global;

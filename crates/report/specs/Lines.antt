@@ -1,5 +1,5 @@
 -- The lines that tell a history.
-use Rattle.std.specs.Prelude.{ℕ, List, [], ◌∷◌, ◌++◌, ◌==◌, codes, decimal, length, map, slice_index_or, unwrap_or, if◌then◌else◌, true, false}
+use Rattle.std.specs.Prelude.{ℕ, List, [], ◌∷◌, ◌++◌, codes, decimal, length, map, slice_index_or, unwrap_or}
 use Rattle.std.specs.Fmt.{signed_decimal}
 use Rattle.std.specs.List.{flat_map, join_with_byte}
 use Rattle.std.specs.Option.{option_map_or}
@@ -7,7 +7,7 @@ use Rattle.std.specs.Str.{byte}
 use Rattle.sql_base.specs.declared.codes.Code.{Code}
 use Rattle.sql_base.specs.declared.codes.Code.TheVariants.{C22003, C22012, C22P02, C23502, C23505, C23514, C0A000, C42601, C42701, C42703, C42804, C42P01, C53200, C54000}
 use Rattle.sql_base.specs.declared.values.Value.{Value}
-use Rattle.sql_base.specs.declared.values.Value.TheVariants.{Null, Int, Text, Bool as Truth}
+use Rattle.sql_text.specs.Printing.{value_text}
 use Rattle.mig_lens.specs.declared.faults.Kind.{Kind}
 use Rattle.mig_lens.specs.declared.faults.Kind.TheVariants as kind_of
 use Rattle.mig_lens.specs.declared.faults.Member.{Member}
@@ -17,7 +17,7 @@ use Rattle.mig_lens.specs.declared.faults.Refusal.{Refusal}
 use Rattle.mig_lens.specs.declared.faults.Refusal.TheVariants.{AlreadyActive, NoActive, Unfinished, NotFilled, NotValid, NameTaken, NoSuchTable, NoSuchColumn, Exists, KeyColumn, ColumnTwice, UpNeeded, DownNeeded, BadExpr, BadType, BadJson, NotInit, AlreadyInit, BackfillRefused, Limit, BadScript}
 use Rattle.machine.specs.declared.events.Entry.{Entry}
 use Rattle.machine.specs.declared.events.Reply.{Reply}
-use Rattle.machine.specs.declared.events.Reply.TheVariants.{Insert, Select, Set, Error, Start, Fill, Filled, Complete, Refused}
+use Rattle.machine.specs.declared.events.Reply.TheVariants.{Delete, Insert, Select, Update, Set, Error, Start, Fill, Filled, Complete, Refused}
 use Rattle.machine.specs.State.{path_name}
 
 -- A code, without the letter that its name begins with.
@@ -36,23 +36,6 @@ code_text C42804 = codes "42804"
 code_text C42P01 = codes "42P01"
 code_text C53200 = codes "53200"
 code_text C54000 = codes "54000"
-
--- A byte of a text. A backslash and a bar get a backslash in front; a newline is written \n, and a carriage return \r.
-abbrev pub escaped_byte : ℕ → List ℕ
-escaped_byte b =
-    if b == byte "\\" then codes "\\\\"
-    else (if b == byte "|" then codes "\\|"
-    else (if b == byte "\n" then codes "\\n"
-    else (if b == byte "\r" then codes "\\r"
-    else b ∷ [])))
-
--- A value: NULL is \N, a number is decimal, and a text is written byte by byte.
-abbrev pub value_text : Value → List ℕ
-value_text Null = codes "\\N"
-value_text (Int n) = signed_decimal n
-value_text (Text text) = flat_map escaped_byte text
-value_text (Truth true) = codes "true"
-value_text (Truth false) = codes "false"
 
 -- A row of a reply: two spaces, its values with a bar between them, and a newline.
 abbrev pub row_text : List Value → List ℕ
@@ -116,6 +99,8 @@ refusal_text (BadScript line) = two_words (codes "P21") (decimal line)
 -- What stands behind the number and the actor. A refused statement names what there is to name, and the row's key where it is known; for what isn't there it has a dash. A started migration is told by the name by which a path names its version. A batch tells the table's new name, the number of rows, and the least and the greatest of their keys.
 abbrev pub reply_text : Reply → List ℕ
 reply_text (Insert n) = codes "INSERT 0 " ++ (decimal n ++ codes "\n")
+reply_text (Update n) = codes "UPDATE " ++ (decimal n ++ codes "\n")
+reply_text (Delete n) = codes "DELETE " ++ (decimal n ++ codes "\n")
 reply_text (Select rows) = codes "SELECT " ++ (decimal (length rows) ++ (codes "\n" ++ flat_map row_text rows))
 reply_text Set = codes "SET\n"
 reply_text (Error code name key) =

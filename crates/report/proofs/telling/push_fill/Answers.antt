@@ -1,9 +1,9 @@
 use Rattle.std.proofs.Common.{◌++◌, ◌∙◌, ap, sym, append_assoc, codes, decimal}
 use Rattle.std.proofs.lemmas.Int.{to_z-of_z}
 use Rattle.std.specs.Fmt.{signed_decimal}
-use Rattle.roll_core.specs.Lines.{three_words}
-use Rattle.pgroll_top.proofs.Joining.{three_pushed}
-use Rattle.pgroll_top.proofs.report.push_fill.Goals as goal
+use Rattle.report.specs.Lines.{three_words}
+use Rattle.report.proofs.Joining.{three_pushed}
+use Rattle.report.proofs.telling.push_fill.Goals as goal
 
 pub returns : goal.returns
 returns c =

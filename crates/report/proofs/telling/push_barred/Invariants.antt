@@ -1,7 +1,7 @@
 use Rattle.std.proofs.Common.{◌≡◌, ◌++◌, codes, drop}
 use Rattle.std.specs.List.{flat_map}
-use Rattle.roll_core.specs.Lines.{value_text}
-use Rattle.pgroll_top.proofs.report.push_barred.Given as goal
+use Rattle.sql_text.specs.Printing.{value_text}
+use Rattle.report.proofs.telling.push_barred.Given as goal
 
 abbrev pub invariant-loop-value : goal.invariant-loop-value
 invariant-loop-value l =
