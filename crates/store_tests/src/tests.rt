@@ -1,4 +1,7 @@
 // Rows, locks and kept functions, with values worked out by hand.
+ghost use Rattle.std.specs.Prelude.{◌≤◌, length, IfOk};
+ghost use Rattle.row_lock.specs.Holding.{size};
+
 use crate::{AsAsked, AtPause, Rising, Taken, ask_by_two, put, take};
 use pace::{Brake, Pacer, Progress, Turn};
 use row_lock::{Locks, Reach};
@@ -46,7 +49,11 @@ fn four_rows(alloc: Global) -> Result<RowStore, NoMemory> {
     Ok(store)
 }
 
-fn keys(alloc: Global, keys: &[i64]) -> Result<Reach, NoMemory> {
+// The reach of a few keys.
+fn keys(alloc: Global, keys: &[i64]) -> Result<Reach, NoMemory>
+    requires { length keys.now ≤ 100 }
+    ensures { IfOk result (λ reach. size reach ≤ 100) }
+{
     let keys = Vec::from_slice(alloc, keys)?;
     Ok(Reach::Keys(List::from_vec(keys)))
 }
@@ -102,7 +109,7 @@ fn rows_are_put_replaced_and_removed(rt: HostRuntime) -> Result<(), Fail> {
 fn keys_put_downwards_are_scanned_upwards(rt: HostRuntime) -> Result<(), Fail> {
     let mut store = RowStore::new(rt.alloc());
     for below in 0..1_000i64 {
-        let key = 999 - below;
+        let key = 999i64.saturating_sub(below);
         assert!(rt; put(&mut store, key, row(rt.alloc(), key)?)?.is_none());
     }
     assert_eq!(rt; store.len(), 1_000);
