@@ -29,12 +29,7 @@ fn rest<R: Wait>(rt: &R) {
 }
 
 // Leaves after a rest, with the desk as it was given.
-fn leave_late<R: Wait>(
-    rt: &R,
-    latch: &Latch<Desk>,
-    mut seat: Seat<Desk>,
-    desk: Desk,
-) -> Seat<Desk>
+fn leave_late<R: Wait>(rt: &R, latch: &Latch<Desk>, mut seat: Seat<Desk>, desk: Desk) -> Seat<Desk>
     requires own { IsSeatOf base_of latch.now seat }
     requires one { places seat ≡ 0 ∷ [] }
     requires entered { HasEntered seat }

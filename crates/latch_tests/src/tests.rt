@@ -61,7 +61,10 @@ fn a_seat_that_waits_is_woken(rt: HostRuntime) -> Result<(), Fail> {
     let Ok(waited) = add_while_held(&rt, rt.alloc(), desk, &[5, 6]) else {
         panic!(rt; "no memory")
     };
-    assert_eq!(rt; (waited.desk.base, waited.told.added, waited.told.seen), (7, 2, 2));
+    assert_eq!(rt;
+        (waited.desk.base, waited.told.added, waited.told.seen),
+        (7, 2, 2)
+    );
     assert!(rt; has_in_order(waited.desk.history.as_slice(), 1, &[5, 6]));
     Ok(())
 }

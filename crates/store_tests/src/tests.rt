@@ -62,7 +62,9 @@ fn keys(alloc: Global, keys: &[i64]) -> Result<Reach, NoMemory>
 fn an_empty_store_has_nothing(rt: HostRuntime) -> Result<(), Fail> {
     let mut store = RowStore::new(rt.alloc());
     assert_eq!(rt; store.len(), 0);
-    assert!(rt; store.get(1).is_none() && store.at(0).is_none() && store.scan_from(i64::MIN).is_none());
+    assert!(rt;
+        store.get(1).is_none() && store.at(0).is_none() && store.scan_from(i64::MIN).is_none()
+    );
     assert!(rt; store.remove(1).is_none());
     store.reserve(2)?;
     assert_eq!(rt; store.len(), 0);
@@ -90,18 +92,26 @@ fn rows_are_put_replaced_and_removed(rt: HostRuntime) -> Result<(), Fail> {
     let Some(former) = former else {
         panic!(rt; "the former row is lost")
     };
-    assert!(rt; is_row(Some(former.as_slice()), 50) && is_row(store.get(5), 51) && store.len() == 4);
+    assert!(rt;
+        is_row(Some(former.as_slice()), 50) && is_row(store.get(5), 51) && store.len() == 4
+    );
     if store.get(9).is_none() {
         panic!(rt; "the row of key 9 is lost")
     }
     let former = store.replace(9, row(rt.alloc(), 91)?);
-    assert!(rt; is_row(Some(former.as_slice()), 90) && is_row(store.get(9), 91) && store.len() == 4);
+    assert!(rt;
+        is_row(Some(former.as_slice()), 90) && is_row(store.get(9), 91) && store.len() == 4
+    );
     let removed = store.remove(0);
     let Some(removed) = removed else {
         panic!(rt; "the removed row is lost")
     };
-    assert!(rt; is_row(Some(removed.as_slice()), 0) && store.remove(0).is_none() && store.len() == 3);
-    assert!(rt; is_at(store.at(0), -3, -30) && is_at(store.at(1), 5, 51) && is_at(store.at(2), 9, 91));
+    assert!(rt;
+        is_row(Some(removed.as_slice()), 0) && store.remove(0).is_none() && store.len() == 3
+    );
+    assert!(rt;
+        is_at(store.at(0), -3, -30) && is_at(store.at(1), 5, 51) && is_at(store.at(2), 9, 91)
+    );
     Ok(())
 }
 
@@ -123,14 +133,26 @@ fn keys_put_downwards_are_scanned_upwards(rt: HostRuntime) -> Result<(), Fail> {
 #[test]
 fn a_key_is_held_by_one_ticket(rt: HostRuntime) -> Result<(), Fail> {
     let mut locks = Locks::new(rt.alloc());
-    assert_eq!(rt; (locks.held(1, 5), locks.held_any(1), locks.open_count()), (None, None, 0));
+    assert_eq!(rt;
+        (locks.held(1, 5), locks.held_any(1), locks.open_count()),
+        (None, None, 0)
+    );
     let first = take(&mut locks, 9, 1, keys(rt.alloc(), &[5, -3])?)?;
     let second = take(&mut locks, 4, 1, keys(rt.alloc(), &[7])?)?;
     let third = take(&mut locks, 6, 2, Reach::Table)?;
     assert!(rt; first == Taken::All && second == Taken::All && third == Taken::All);
-    assert_eq!(rt; (locks.held(1, 5), locks.held(1, -3), locks.held(1, 7)), (Some(9), Some(9), Some(4)));
-    assert_eq!(rt; (locks.held(1, 6), locks.held(2, 6), locks.held(3, 5)), (None, Some(6), None));
-    assert_eq!(rt; (locks.held_any(1), locks.held_any(2), locks.held_any(3)), (Some(4), Some(6), None));
+    assert_eq!(rt;
+        (locks.held(1, 5), locks.held(1, -3), locks.held(1, 7)),
+        (Some(9), Some(9), Some(4))
+    );
+    assert_eq!(rt;
+        (locks.held(1, 6), locks.held(2, 6), locks.held(3, 5)),
+        (None, Some(6), None)
+    );
+    assert_eq!(rt;
+        (locks.held_any(1), locks.held_any(2), locks.held_any(3)),
+        (Some(4), Some(6), None)
+    );
     assert_eq!(rt; locks.open_count(), 3);
     Ok(())
 }
