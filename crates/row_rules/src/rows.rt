@@ -5,6 +5,7 @@ ghost use Rattle.std.specs.Option.{option_map};
 ghost use Rattle.std.specs.Ordering.{int_eq};
 
 ghost use Rattle.sql_eval.specs.Row.{least};
+ghost use Rattle.row_rules.specs.Inner as inner;
 ghost use Rattle.row_rules.specs.Rows.{missing_keys};
 ghost use Rattle.row_rules.specs.Site.{is_missing};
 
@@ -80,16 +81,42 @@ pub fn any_missing<T: TableRows>(rows: &T) -> bool
     false
 }
 
+/// The least key, where this one counts or doesn't beside the least of others.
+pub fn with_least(key: i64, counts: bool, least: Option<i64>) -> Option<i64>
+    ensures { result ≡ inner.with_least key counts least }
+{
+    match least {
+        Some(other) if counts && key < other => Some(key),
+        None if counts => Some(key),
+        _ => least,
+    }
+}
+
 /// The least key of the rows that are still to be filled.
 pub fn least_missing<T: TableRows>(rows: &T) -> Option<i64>
     ensures { result ≡ least (missing_keys (T.rows rows.now)) }
 {
-    None
+    let mut least = None;
+    let mut at = rows.count();
+    while at > 0 {
+        at -= 1;
+        least = with_least(rows.key_at(at), rows.misses_at(at), least);
+    }
+    least
 }
 
 /// The first so many of the rows that are still to be filled.
-pub fn missing_rows<T: TableRows>(_alloc: Global, rows: &T, n: u32) -> Result<List<Kept>, NoMemory>
+pub fn missing_rows<T: TableRows>(alloc: Global, rows: &T, n: u32) -> Result<List<Kept>, NoMemory>
     ensures { IfOk result (λ all. all ≡ take n (filter is_missing (T.rows rows.now))) }
 {
-    Err(NoMemory)
+    let mut missing = List::new(alloc);
+    for at in 0..rows.count() {
+        if missing.len() >= n as usize {
+            return Ok(missing);
+        }
+        if rows.misses_at(at) {
+            missing.push(rows.row_at(alloc, at)?)?;
+        }
+    }
+    Ok(missing)
 }
