@@ -3,7 +3,7 @@ use Rattle.std.proofs.Common.{◌≡◌, ℕ, List, [], ◌∷◌, ◌++◌, Opt
 use Rattle.std.specs.Io.KnownBytes.{Appends}
 use Rattle.std.proofs.lemmas.Grind.{flat_map-append}
 use Rattle.pg_io.specs.Outside.{Known, Cut}
-use Rattle.pg_io.proofs.Known.{appends_more, appends_kept, appends_none, rose_since}
+use Rattle.pg_io.specs.Laws.{appends_more, appends_kept, appends_none, rose_since}
 use Rattle.machine.specs.declared.events.Entry.{Entry}
 use Rattle.pgroll_top.specs.declared.ending.Stop.{Stop}
 use Rattle.pgroll_top.specs.declared.ending.Stop.TheVariants.{WriteFault, NoMemory}

@@ -3,7 +3,7 @@ use Rattle.std.proofs.Common.{◌≡◌, ℕ, zero, suc, ◌+◌, ◌*◌, ◌<�
 use Rattle.std.specs.Io.KnownBytes.{Appends}
 use Rattle.std.proofs.lemmas.List.{take_more, take-append-drop}
 use Rattle.pg_io.specs.Outside.{Known}
-use Rattle.pg_io.proofs.Known.{appends_none}
+use Rattle.pg_io.specs.Laws.{appends_none}
 use Rattle.mig_json.specs.Migration.{FaultlessTextsAreRead}
 use Rattle.sql_small.specs.Small.{ReadsOrNot}
 use Rattle.script_text.specs.declared.lines.Line.{Line}
