@@ -1,0 +1,16 @@
+pub mod Accepting
+pub mod Below
+pub mod Changing
+pub mod Ending
+pub mod FoundSites
+pub mod GivenValues
+pub mod Joining
+pub mod Moving
+pub mod Outcomes
+pub mod Pairs
+pub mod Placing
+pub mod Replacing
+pub mod SettledJobs
+pub mod SiteChanges
+pub mod SiteHalves
+pub mod Tidying

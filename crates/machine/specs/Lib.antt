@@ -4,6 +4,7 @@ pub mod Lawful
 pub mod Laws
 pub mod Migrate
 pub mod Plain
+pub mod Sites
 pub mod Standing
 pub mod State
 pub mod Statement

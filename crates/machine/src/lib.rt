@@ -2,6 +2,7 @@
 #![tactic(auto)]
 
 mod events;
+pub mod laws;
 pub mod parts;
 mod start_state;
 mod states;
