@@ -10,7 +10,7 @@ use Rattle.machine.specs.State.{Found, lost_columns_of, row_count, rows_of, site
 use Rattle.machine.specs.Statement.{max_rows}
 use Rattle.machine.specs.Words.{Change, Job, Kept, State}
 use Rattle.row_rules.specs.declared.kinds.Change.TheVariants.{Put, Remove}
-use Rattle.machine.proofs.Below.{Below}
+use Rattle.machine.specs.Below.{Below}
 use Rattle.machine.proofs.FoundSites.{row_off_site, row_on_site, site_stands}
 use Rattle.machine.proofs.Moving.{each_both, each_so}
 use Rattle.machine.proofs.Placing.{OfPut, changed_ascend, changed_each}

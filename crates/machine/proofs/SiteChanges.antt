@@ -20,7 +20,7 @@ use Rattle.machine.specs.Standing.{HalfStands}
 use Rattle.machine.specs.Words.{Cause, Change, Expr, Halves, Job, Kept, Shape, Table}
 use Rattle.machine.specs.Words.job
 use Rattle.machine.proofs.Accepting.{every_made, map_fault_ok}
-use Rattle.machine.proofs.Below.{Below}
+use Rattle.machine.specs.Below.{Below}
 use Rattle.machine.proofs.GivenValues.{Suits, evaluated_suits, given_fits, given_stays, lookup_none, suit_from}
 use Rattle.machine.proofs.Moving.{each_so, map_each}
 use Rattle.machine.proofs.SiteHalves.{Touched, filled_row_stands, new_row_stands, remade_stands, same_key, touched_stands}

@@ -19,7 +19,7 @@ use Rattle.machine.specs.Sites.{BesideStands, SiteRow, SiteStands, may_miss_besi
 use Rattle.machine.specs.Standing.{HalfStands, NewStands}
 use Rattle.machine.specs.Words.{Halves, Kept, New, Old, Side, Table}
 use Rattle.machine.proofs.Accepting.{map_fault_ok, without_ok}
-use Rattle.machine.proofs.Below.{Below}
+use Rattle.machine.specs.Below.{Below}
 
 -- ---- keys
 

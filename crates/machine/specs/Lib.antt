@@ -1,3 +1,4 @@
+pub mod Below
 pub mod Done
 pub mod Follows
 pub mod Lawful

@@ -1,5 +1,23 @@
 //! Laws of the machine, over its definitions alone. Each is the contract of a function that does nothing.
+ghost use Rattle.machine.specs.Below.{Below};
 ghost use Rattle.machine.specs.Laws.{StepsKeepStates, RunsReachStates, RefusalsChangeNothing, BegunHalvesAreMade, OldShowsOldHalves, PlainStepsAreSteps, LaneStepsAreSteps, LaneRunsAreRuns, StepsKeepLaws, RunsReachLawful, OnlyCommandsAreRefused, BatchesLeaveFewer, UnfilledRowsAreFew, StepsLeaveFewer, StepsAreFew};
+
+use mig_lens::laws::{
+    added_columns_keep_tables, made_halves_fit, planned_lenses_join,
+    planned_schemas_are_well_formed,
+};
+use sql_eval::laws::typed_values_are_of_their_types;
+
+// What the layers below say of values, of lenses and of plans.
+fn laws_below()
+    ensures { Below }
+{
+    typed_values_are_of_their_types();
+    made_halves_fit();
+    planned_lenses_join();
+    planned_schemas_are_well_formed();
+    added_columns_keep_tables();
+}
 
 /// A step from a state that stands leads to one, and so does every run that begins as the program does: rows have
 /// their halves, which fit their shapes and have the row's key; rows ascend by key; schemas are well formed; the
@@ -7,7 +25,9 @@ ghost use Rattle.machine.specs.Laws.{StepsKeepStates, RunsReachStates, RefusalsC
 pub fn states_stand()
     ensures steps { StepsKeepStates }
     ensures runs { RunsReachStates }
-{}
+{
+    laws_below();
+}
 
 /// An event that is refused changes nothing, and neither does a SELECT or a SET.
 pub fn refusals_change_nothing()

@@ -1,4 +1,4 @@
--- The laws of the layers below that the proofs of this one rest on.
+-- The laws of the layers below that the laws of this one rest on.
 use Rattle.sql_eval.specs.Laws.{TypedIsSound}
 use Rattle.mig_lens.specs.Laws.{BackwardFits, ForwardFits, HasLenses, KeepsTables, OfAddedColumns, PlannedLensesJoin, PlansKeepSchemas}
 
