@@ -53,7 +53,9 @@ pub fn plain_steps_are_steps()
 pub fn lane_runs_are_runs()
     ensures steps { LaneStepsAreSteps }
     ensures runs { LaneRunsAreRuns }
-{}
+{
+    laws_below();
+}
 
 /// A step from a lawful state that stands leads to a lawful one, and every run that begins as the program does reaches
 /// lawful states alone: while one version stands no row has a fault or has the same values as another in the
@@ -62,7 +64,9 @@ pub fn lane_runs_are_runs()
 pub fn states_stay_lawful()
     ensures steps { StepsKeepLaws }
     ensures runs { RunsReachLawful }
-{}
+{
+    laws_below();
+}
 
 /// Only a command is answered REFUSED.
 pub fn only_commands_are_refused()
