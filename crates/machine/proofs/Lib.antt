@@ -3,6 +3,7 @@ pub mod Answering
 pub mod Changing
 pub mod Choosing
 pub mod Completing
+pub mod Emptying
 pub mod Ending
 pub mod Filling
 pub mod FoundSites

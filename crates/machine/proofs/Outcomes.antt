@@ -1,5 +1,5 @@
 -- What holds of every accepted event, and of a state that nothing changed, holds of every step.
-use Rattle.std.proofs.Common.{◌≡◌, ◌∙◌, inl, inr, ℕ, ℤ, List, [], ◌∷◌, Bool, true, false, Option, Some, None, Result, Ok, Err, refl, sym, ap, subst, filter}
+use Rattle.std.proofs.Common.{◌≡◌, ◌∙◌, inl, inr, ℕ, ℤ, List, [], ◌∷◌, Bool, true, false, Option, Some, None, Result, Ok, Err, refl, sym, ap, subst, filter, length, ◌≤◌}
 use Rattle.sql_base.specs.Outcome.{and_then}
 use Rattle.row_rules.specs.Outcome.{guarded, without}
 use Rattle.machine.specs.declared.events.Asked.{Asked}
@@ -49,12 +49,12 @@ command_so s Q (Err refusal) reply wrote t still h c = subst (λ r. Q r t) (sym 
 pub record Batches (s : State) (Q : Reply → State → Type 0) : Type 0 where
   pub refused : (refusal : Refusal) → Q (Refused refusal) s
   pub filled : Q Filled s
-  pub some : (number : ℕ) (chosen : ℤ → Bool) → Holds Q (fill_keys s number (filter chosen (missing_keys s number)))
+  pub some : (number : ℕ) (chosen : ℤ → Bool) → 1 ≤ length (filter chosen (missing_keys s number)) → Holds Q (fill_keys s number (filter chosen (missing_keys s number)))
 
 fills_so : (s : State) (Q : Reply → State → Type 0) → Batches s Q → (n : ℕ) (numbers : List ℕ) (reply : Reply) (wrote : Wrote) (t : State) → FillsSome numbers s n reply wrote t → Q reply t
 fills_so s Q b n [] reply wrote t c = subst (λ r. Q r t) (sym c.0) (subst (Q Filled) (sym c.2) b.filled)
 fills_so s Q b n (number ∷ numbers) reply wrote t (keys, c) =
-    command_so s Q (fill_keys s keys.number (filter keys.chosen (missing_keys s keys.number))) reply wrote t b.refused (b.some keys.number keys.chosen) c
+    command_so s Q (fill_keys s keys.number (filter keys.chosen (missing_keys s keys.number))) reply wrote t b.refused (b.some keys.number keys.chosen keys.some) c
 
 fill_so : (s : State) (Q : Reply → State → Type 0) → Batches s Q → (n : ℕ) (refusal : Option Refusal) (reply : Reply) (wrote : Wrote) (t : State) → FillStep refusal s n reply wrote t → Q reply t
 fill_so s Q b n None reply wrote t c = fills_so s Q b n (unfilled_tables s) reply wrote t c
@@ -71,7 +71,7 @@ pub record Events (s : State) (Q : Reply → State → Type 0) : Type 0 where
   pub refused : (reply : Reply) → Q reply s
   pub line : (path : List (List ℕ)) (reading : Reading) → Holds Q (line_outcome s path reading)
   pub start : (asked : Asked) → Holds Q (start s asked)
-  pub some : (number : ℕ) (chosen : ℤ → Bool) → Holds Q (fill_keys s number (filter chosen (missing_keys s number)))
+  pub some : (number : ℕ) (chosen : ℤ → Bool) → 1 ≤ length (filter chosen (missing_keys s number)) → Holds Q (fill_keys s number (filter chosen (missing_keys s number)))
   pub complete : Holds Q (complete s)
 
 pub step_so : (s : State) (Q : Reply → State → Type 0) → Events s Q → (what : Event) (reply : Reply) (t : State) → Step s what reply t → Q reply t

@@ -92,6 +92,6 @@ refusals_change_nothing s what reply t step =
       refused = λ reply h. refl;
       line = line_stays s;
       start = start_stays s;
-      some = λ number chosen. fill_stays s number (filter chosen (missing_keys s number));
+      some = λ number chosen _. fill_stays s number (filter chosen (missing_keys s number));
       complete = complete_stays s;
     }) what reply t step

@@ -27,7 +27,7 @@ stay s below stands =
       refused = λ reply. stands;
       line = λ path reading. line_stands below s path reading stands;
       start = λ asked. started_stands below s asked stands;
-      some = λ number chosen. filled_stands below s number (filter chosen (missing_keys s number)) stands;
+      some = λ number chosen _. filled_stands below s number (filter chosen (missing_keys s number)) stands;
       complete = completed_stands s stands;
     }
 
