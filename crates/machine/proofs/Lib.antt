@@ -2,6 +2,7 @@ pub mod Accepting
 pub mod Answering
 pub mod Changing
 pub mod Choosing
+pub mod Clashes
 pub mod Completing
 pub mod Emptying
 pub mod Ending
@@ -9,7 +10,10 @@ pub mod Filling
 pub mod FoundSites
 pub mod GivenValues
 pub mod Joining
+pub mod KeepingLaws
 pub mod Lanes
+pub mod LawfulRows
+pub mod LawfulTables
 pub mod Lines
 pub mod Moving
 pub mod Outcomes
@@ -21,5 +25,6 @@ pub mod Running
 pub mod SettledJobs
 pub mod SiteChanges
 pub mod SiteHalves
+pub mod SoundChanges
 pub mod Starting
 pub mod Tidying
