@@ -126,7 +126,7 @@ found_written s what found stands lawful f =
     changed_lawful s stands lawful found f what rows all (map_fault_ok (λ (cause : Cause). error_reply (row_error cause)) (changes site what rows) all made) quiet))
 
 finished_lawful : (s : State) (b : Begun) → IsState s → IsLawful s → BegunStands s b → Holds Lawful (finished s b)
-finished_lawful s (Writes site what) stands lawful w = subst (λ site. Holds Lawful (written s site what)) (sym w.is) (found_written s what w.found stands lawful w.stands)
+finished_lawful s (Writes site what) stands lawful w = subst (λ site. Holds Lawful (written s site what)) (sym w.0.is) (found_written s what w.0.found stands lawful w.0.stands)
 finished_lawful s (Shows site items condition) stands lawful w =
     holds_then Lawful (map_fault error_reply (rows_shown site items condition max_reply (rows_of s (number_of site.here)))) (λ rows. Ok (answered s (Select rows))) (λ rows e. lawful)
 finished_lawful s Sets stands lawful w = lawful

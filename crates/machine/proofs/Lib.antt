@@ -26,5 +26,6 @@ pub mod SettledJobs
 pub mod SiteChanges
 pub mod SiteHalves
 pub mod SoundChanges
+pub mod StandingSites
 pub mod Starting
 pub mod Tidying
