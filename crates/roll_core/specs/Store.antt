@@ -1,133 +1,159 @@
 -- What the engine stores, and what that means as a state of the machine.
 --
--- The engine keeps a frame, which is a state without its rows, and per table its stored rows in ascending key. While one version has the tables and no step of completing is left, a stored row is the version's row. From START on a table that both versions have keeps its rows by the pair's layout: the old columns, the shadow places, the mark. The first step of completing takes the old version away and leaves the rows; the second takes the old columns that are lost, and the mark; the third orders the places. So a row is stored once, whatever number of versions stand, and each version's view selects its half.
-use Rattle.std.specs.Prelude.{◌≡◌, ℕ, suc, ◌==◌, ℤ, List, [], ◌∷◌, Option, Some, None, length, map, sum_by, if◌then◌else◌}
+-- The engine keeps a frame, which is a state without its rows; from the first step of completing until the last one what the version that is gone had; and per table its stored rows by ascending key, in the form in which they are stored. While one version has a table and no step is left, a stored row is the version's row. From START on a table that both versions have keeps its rows by the pair's layout: the old columns, the shadow places, the mark. The first step of completing takes the old version away and leaves the rows; the second takes the old columns that are lost, and the mark; the third orders the places. So a row is stored once, whatever number of versions stand, and each version's view selects its half.
+use Rattle.std.specs.Prelude.{◌≡◌, ◌≤◌, ℕ, ℤ, List, [], ◌==◌, false, Option, Some, None, map, unwrap_or, if◌then◌else◌}
 use Rattle.std.specs.List.{AllByRecursion}
-use Rattle.std.specs.Option.{option_map}
-use Rattle.std.specs.Ordering.{int_cmp, match_ordering}
+use Rattle.std.specs.Option.{option_and_then, option_map_or}
+use Rattle.sql_base.specs.declared.shapes.Schema.{Schema}
 use Rattle.sql_base.specs.declared.values.Value.{Value}
-use Rattle.mig_lens.specs.Plan.{shape_numbered}
-use Rattle.machine.specs.declared.states.Halves.{Halves}
-use Rattle.machine.specs.declared.states.Kept.{Kept}
-use Rattle.machine.specs.declared.states.Mode.{Mode}
+use Rattle.mig_lens.specs.declared.columns.Lens.{Lens}
+use Rattle.mig_lens.specs.declared.faults.Kind.TheVariants.{Nothing}
+use Rattle.mig_lens.specs.declared.plans.Fate.{Fate}
+use Rattle.mig_lens.specs.Laws.{IsSchema, Joins}
+use Rattle.row_rules.specs.declared.kinds.Halves.{Halves}
+use Rattle.row_rules.specs.declared.kinds.Kept.{Kept}
+use Rattle.row_rules.specs.Site.{shape_of}
 use Rattle.machine.specs.declared.states.Mode.TheVariants.{Calm, Both}
 use Rattle.machine.specs.declared.states.State.{State}
-use Rattle.machine.specs.Standing.{Ascends, IsState}
-use Rattle.machine.specs.State.{Shared, shape_of, shared}
+use Rattle.machine.specs.Lawful.{IsLawful}
+use Rattle.machine.specs.Migrate.{lost_weight}
+use Rattle.machine.specs.Standing.{IsState}
+use Rattle.machine.specs.State.{Shared, lens_among, shared}
 use Rattle.trigger_pair.specs.declared.pairs.Pair.{Pair}
-use Rattle.trigger_pair.specs.Laws.{IsPair}
 use Rattle.trigger_pair.specs.Rows.{IsFilledRow, IsPairedRow}
-use Rattle.trigger_pair.specs.Stored.{new_half, new_view, old_view}
-use Rattle.phase_steps.specs.Rows.{IsTrimmedRow, pair_of, trimmed_view}
-use Rattle.roll_core.specs.declared.phases.Phase.{Phase}
-use Rattle.roll_core.specs.declared.phases.Phase.TheVariants.{Alone, Paired, Leaving, Trimmed}
-use Rattle.roll_core.specs.declared.store.StoredRow.{StoredRow}
-use Rattle.roll_core.specs.declared.store.StoredTable.{StoredTable}
+use Rattle.trigger_pair.specs.Stored.{new_half, new_view, old_view, stored_row}
+use Rattle.phase_steps.specs.Rows.{IsTrimmedRow, left_row, pair_of, trimmed, trimmed_view}
+use Rattle.roll_core.specs.declared.forms.Form.{Form}
+use Rattle.roll_core.specs.declared.forms.Form.TheVariants.{Own, Paired, Left, Trimmed}
 
--- ---- the phase, which says by which layout rows are stored
+-- ---- what is kept of a version that is gone
 
--- (So far nothing is rolled back.)
-abbrev pub calm_phase : ℕ → Phase
-calm_phase left = if left == 0 then Alone else (if left == 2 then Leaving else Trimmed)
+-- Its name, its tables, and what became of each of them.
+pub record Former : Type 0 where
+  pub version : List ℕ
+  pub schema : Schema
+  pub fates : List (ℕ × Fate)
 
-abbrev pub phase_in : Mode → ℕ → Phase
-phase_in Calm left = calm_phase left
-phase_in (Both name schema fates) left = Paired
+-- The state as both versions stood, seen from after the first step of completing.
+abbrev pub both_again : Former → State → State
+both_again former frame = record frame {
+  version = former.version;
+  schema = former.schema;
+  mode = Both frame.version frame.schema former.fates;
+  left = 0;
+  kind = Nothing;
+}
 
-abbrev pub phase_of : State → Phase
-phase_of s = phase_in s.mode s.left
-
--- ---- the meaning
-
--- The halves that a stored row has. While both versions stand the old view selects the old half and the new view the new one, which is missing exactly where the mark is true. While steps of tidying are left the standing version's view selects its half.
-abbrev pub halves_of : Phase → Option Pair → List Value → Halves
-halves_of Paired (Some pair) values = record { old = Some (old_view pair values); new = new_half pair values }
-halves_of Leaving (Some pair) values = record { old = Some (new_view pair values); new = None }
-halves_of Trimmed (Some pair) values = record { old = Some (trimmed_view pair.lens values); new = None }
-halves_of _ _ values = record { old = Some values; new = None }
-
-abbrev pub kept : Phase → Option Pair → StoredRow → Kept
-kept phase pair row = record { key = row.key; halves = halves_of phase pair row.values }
-
-abbrev pub rows_meant : Phase → StoredTable → List Kept
-rows_meant phase table = map (kept phase table.pair) table.rows
-
-abbrev pub table_meant : Phase → StoredTable → ℕ × List Kept
-table_meant phase table = (table.number, rows_meant phase table)
-
--- The state that the engine's parts mean: the frame, with the rows of these tables.
-abbrev pub meaning : State → List StoredTable → State
-meaning frame store = record frame { tables = map (table_meant (phase_of frame)) store }
-
--- ---- what the engine keeps
+-- ---- the form in which a table's rows are stored
 
 -- The pair of a table that both versions have.
 abbrev pub pair_over : Shared → Pair
 pair_over both = pair_of (shape_of both.old) (shape_of both.new) both.lens
 
--- A table whose pair was left behind by the version that is gone: the standing version has the pair's new shape.
-pub record HasFormerPair (frame : State) (table : StoredTable) : Type 0 where
-  pub pair : Pair
-  pub has : table.pair ≡ Some pair
-  pub is_pair : IsPair pair
-  pub stands : shape_numbered frame.schema table.number ≡ Some pair.new
+-- A form over the pair of a table, where both versions have it. A table that only one has is stored as its own.
+abbrev pub over_pair : (Pair → Form) → Option Shared → Form
+over_pair form both = option_map_or (λ both. form (pair_over both)) both Own
 
--- The table has the pair of the phase.
-abbrev pub HasPair : Phase → State → StoredTable → Type 0
-HasPair Alone frame table = table.pair ≡ None
-HasPair Paired frame table = table.pair ≡ option_map pair_over (shared frame table.number)
-HasPair Leaving frame table = HasFormerPair frame table
-HasPair Trimmed frame table = HasFormerPair frame table
+-- What both versions had of a table before the first step of completing.
+abbrev pub former_pair : Option Former → State → ℕ → Option Shared
+former_pair former frame number = option_and_then (λ former. shared (both_again former frame) number) former
 
--- Which rows are stored in a phase. While both versions stand a row is filled, or as START left it. Then each is filled, until the second step leaves of it what the standing version shows. One version alone stores just its rows, and these fit its shape (`IsState`).
-abbrev pub IsStoredRow : Phase → Option Pair → StoredRow → Type 0
-IsStoredRow Paired (Some pair) row = IsPairedRow pair row.values
-IsStoredRow Leaving (Some pair) row = IsFilledRow pair row.values
-IsStoredRow Trimmed (Some pair) row = IsTrimmedRow pair row.values
-IsStoredRow _ _ row = Unit {0}
+-- (So far nothing is rolled back.)
+abbrev pub calm_form : Option Former → State → ℕ → Form
+calm_form former frame number =
+    if frame.left == 2 then over_pair Left (former_pair former frame number)
+    else if frame.left == 1 then over_pair Trimmed (former_pair former frame number)
+    else Own
 
-pub record IsStoredTable (frame : State) (table : StoredTable) : Type 0 where
-  pub pair : HasPair (phase_of frame) frame table
-  pub rows : AllByRecursion (IsStoredRow (phase_of frame) table.pair) table.rows
+-- The form of the table of a number.
+abbrev pub form_in : Option Former → State → ℕ → Form
+form_in former frame number = elim frame.mode [
+  | Calm ↦ calm_form former frame number
+  | Both name schema fates ↦ over_pair Paired (shared frame number)
+]
 
-abbrev pub AreStored : State → List StoredTable → Type 0
-AreStored frame store = AllByRecursion (IsStoredTable frame) store
+-- ---- the meaning
 
--- What holds of the parts of every engine: the frame has no rows of its own, the parts mean a state that stands, and the tables are stored by the phase.
-pub record IsStored (frame : State) (store : List StoredTable) : Type 0 where
-  pub once : frame.tables ≡ []
-  pub stands : IsState (meaning frame store)
-  pub tables : AreStored frame store
+-- The halves that a stored row has. While both versions stand the old view selects the old half and the new view the new one, which is missing exactly where the mark is true. While steps of tidying are left the standing version's view selects its half.
+abbrev pub halves_of : Form → List Value → Halves
+halves_of Own values = record { old = Some values; new = None }
+halves_of (Paired pair) values = record { old = Some (old_view pair values); new = new_half pair values }
+halves_of (Left pair) values = record { old = Some (new_view pair values); new = None }
+halves_of (Trimmed pair) values = record { old = Some (trimmed_view pair.lens values); new = None }
 
--- ---- rows in ascending key
+-- The lost weight: that of the old columns that aren't carried, until the second step takes them.
+abbrev pub lost_of : Form → List Value → ℕ
+lost_of Own values = 0
+lost_of (Paired pair) values = 0
+lost_of (Left pair) values = lost_weight pair.lens.old_cols (old_view pair values)
+lost_of (Trimmed pair) values = 0
 
--- The row as one version alone keeps it.
-abbrev pub bare : StoredRow → Kept
-bare row = kept Alone None row
+-- A stored row is a key and its values, place by place.
+abbrev pub StoredRow : Type 0
+StoredRow = ℤ × List Value
 
-abbrev pub RowsAscend : List StoredRow → Type 0
-RowsAscend rows = Ascends (map bare rows)
+abbrev pub kept : Form → StoredRow → Kept
+kept form row = record { key = row.0; halves = halves_of form row.1; lost = lost_of form row.1 }
 
--- These rows, which ascend by key, with one more in its place. It replaces a row of an equal key.
-abbrev pub put_stored : StoredRow → List StoredRow → List StoredRow
-put_stored row [] = row ∷ []
-put_stored row (first ∷ rows) = match_ordering (int_cmp row.key first.key) (row ∷ first ∷ rows) (row ∷ rows) (first ∷ put_stored row rows)
+-- A table as it is stored: its number, the form of its rows, and its rows by ascending key.
+pub record StoredTable : Type 0 where
+  pub number : ℕ
+  pub form : Form
+  pub rows : List StoredRow
 
--- The number of rows at the front that have lesser keys than this one.
-abbrev pub place : ℤ → List StoredRow → ℕ
-place key [] = 0
-place key (row ∷ rows) = match_ordering (int_cmp key row.key) 0 0 (suc (place key rows))
+abbrev pub rows_meant : StoredTable → List Kept
+rows_meant table = map (kept table.form) table.rows
 
--- ---- tables
+abbrev pub table_meant : StoredTable → ℕ × List Kept
+table_meant table = (table.number, rows_meant table)
 
-abbrev pub stored_numbers : List StoredTable → List ℕ
-stored_numbers store = map (λ table. table.number) store
+-- What an engine stores.
+pub record Stored : Type 0 where
+  pub frame : State
+  pub former : Option Former
+  pub tables : List StoredTable
 
--- The place of the first table of a number.
-abbrev pub table_place : ℕ → List StoredTable → ℕ
-table_place number [] = 0
-table_place number (table ∷ tables) = if table.number == number then 0 else suc (table_place number tables)
+-- The state that it means: the frame, with the rows of these tables.
+abbrev pub meaning : Stored → State
+meaning stored = record stored.frame { tables = map table_meant stored.tables }
 
--- The number of rows in all tables.
-abbrev pub stored_count : List StoredTable → ℕ
-stored_count store = sum_by (λ table. length table.rows) store
+-- ---- what is stored of a row that is written
+
+-- The values that are stored of halves that stand, over what was stored under the key, if anything was: while both versions stand both halves, and no mark; then the standing version's half, with what is lost as it was.
+abbrev pub stored_values : Form → Halves → Option (List Value) → List Value
+stored_values Own halves before = unwrap_or halves.old []
+stored_values (Paired pair) halves before = stored_row pair (unwrap_or halves.old []) (unwrap_or halves.new []) false
+stored_values (Left pair) halves before = left_row pair.lens (unwrap_or halves.old []) before
+stored_values (Trimmed pair) halves before = trimmed pair.lens (left_row pair.lens (unwrap_or halves.old []) None)
+
+-- ---- which parts there are
+
+-- Which rows are stored in a form. While both versions stand a row is filled, or as START left it. Then each is filled, until the second step leaves of it what the standing version shows. One version alone stores just its rows, and these fit its shape (`IsState`).
+abbrev pub IsStoredRow : Form → List Value → Type 0
+IsStoredRow Own values = Unit {0}
+IsStoredRow (Paired pair) values = IsPairedRow pair values
+IsStoredRow (Left pair) values = IsFilledRow pair values
+IsStoredRow (Trimmed pair) values = IsTrimmedRow pair values
+
+-- A table is stored in the form that the frame says.
+pub record IsStoredTable (stored : Stored) (table : StoredTable) : Type 0 where
+  pub form : table.form ≡ form_in stored.former stored.frame table.number
+  pub rows : AllByRecursion (λ row. IsStoredRow table.form row.1) table.rows
+
+-- The version that is gone stood beside the one that stands: the migration's own lenses join the two.
+pub record FormerStands (frame : State) (former : Former) : Type 0 where
+  pub schema : IsSchema former.schema
+  pub joined : (number : ℕ) (lens : Lens) → lens_among former.fates number ≡ Some lens → Joins lens number former.schema frame.schema
+
+-- Something is kept of it exactly while steps of tidying are left.
+abbrev pub HasFormer : State → Option Former → Type 0
+HasFormer frame None = frame.left ≡ 0
+HasFormer frame (Some former) = (1 ≤ frame.left) × FormerStands frame former
+
+-- What holds of the parts of every engine: the frame has no rows of its own, the parts mean a state that stands and in which no constraint is broken, what is kept of the version that is gone is the migration's, and the tables are stored in the forms that the frame says.
+pub record IsStored (stored : Stored) : Type 0 where
+  pub once : stored.frame.tables ≡ []
+  pub stands : IsState (meaning stored)
+  pub lawful : IsLawful (meaning stored)
+  pub former : HasFormer stored.frame stored.former
+  pub tables : AllByRecursion (IsStoredTable stored) stored.tables
