@@ -17,7 +17,7 @@ use Rattle.mig_lens.specs.Plan.{Table}
 use Rattle.sql_base.specs.Laws.{either_none}
 use Rattle.machine.proofs.Choosing.{eq_self, eq_turns}
 use Rattle.machine.proofs.Moving.{each_both, each_so, map_each}
-use Rattle.machine.proofs.Placing.{Above, OfPut, above_fresh, above_less, ascends_above, ascends_rest, changed_ascend, changed_each, neither}
+use Rattle.machine.proofs.Placing.{Above, above_fresh, above_less, ascends_above, ascends_rest, changed_ascend, changed_each, neither}
 use Rattle.row_rules.specs.declared.kinds.Kept.{Kept}
 use Rattle.row_rules.specs.declared.kinds.Cause.{Cause}
 use Rattle.row_rules.specs.declared.kinds.Change.{Change}
@@ -27,6 +27,7 @@ use Rattle.row_rules.specs.Causes.{constraint_cause}
 use Rattle.row_rules.specs.Changes.{after_changes, keys_changed, rows_put}
 use Rattle.row_rules.specs.Outcome.{first_some}
 use Rattle.row_rules.specs.Site.{half, shape_of}
+use Rattle.machine.specs.Sites.{OfPut}
 use Rattle.machine.specs.Standing.{Ascends}
 
 -- ---- likeness goes both ways

@@ -22,7 +22,7 @@ use Rattle.machine.specs.Done.{CommandOutcome, Started, answered}
 use Rattle.machine.specs.Lawful.{HasLawfulRows, HasNoClash, IsLawful, IsLawfulRow}
 use Rattle.machine.specs.Laws.{RunsReachLawful, StepsKeepLaws}
 use Rattle.machine.specs.Migrate.{batch, batch_settled, complete, completed, fill_keys, finish, has_heavy, invalid, may_not_complete, may_not_start, not_filled, not_valid, numbers_of, planned, refused_batch, start, start_planned, started, stepped, tidied, too_heavy}
-use Rattle.machine.specs.Sites.{TableStands, new_table_by, table_by}
+use Rattle.machine.specs.Sites.{OfPut, TableStands, new_table_by, table_by}
 use Rattle.machine.specs.Standing.{IsState}
 use Rattle.machine.specs.State.{Found, Shared, beginning, filling_site, missing_keys, rows_of, shared, site_of, table_on, with_rows}
 use Rattle.machine.specs.Statement.{Begun, Writes, Shows, Sets, begun, changed, error_reply, finished, refused_all, settled, too_many, written}
@@ -37,7 +37,7 @@ use Rattle.machine.proofs.Lines.{BegunStands, begun_stands}
 use Rattle.machine.proofs.Moving.{each_so}
 use Rattle.machine.proofs.Outcomes.{Events, Holds, holds_guarded, holds_then, holds_without, step_so}
 use Rattle.machine.proofs.Pairs.{new_stands}
-use Rattle.machine.proofs.Placing.{OfPut, changed_each}
+use Rattle.machine.proofs.Placing.{changed_each}
 use Rattle.machine.proofs.Replacing.{rows_stand}
 use Rattle.machine.proofs.Running.{beginning_stands, steps_keep_states}
 use Rattle.machine.proofs.SoundChanges.{IsSound, changes_sound}

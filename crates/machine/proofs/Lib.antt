@@ -1,4 +1,5 @@
 pub mod Accepting
+pub mod AgreeingChanges
 pub mod Answering
 pub mod Changing
 pub mod Choosing
@@ -9,6 +10,7 @@ pub mod Ending
 pub mod Filling
 pub mod FoundSites
 pub mod GivenValues
+pub mod JobChanges
 pub mod Joining
 pub mod KeepingLaws
 pub mod Lanes

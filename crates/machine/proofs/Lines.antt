@@ -19,7 +19,7 @@ use Rattle.machine.specs.Words.{Cause, Change, Deep, DeleteFrom, Expr, InsertInt
 use Rattle.machine.proofs.Accepting.{guarded_ok, if_none, map_fault_ok, ok_or_ok}
 use Rattle.machine.specs.Below.{Below}
 use Rattle.machine.proofs.Changing.{changed_stands, rows_on_site}
-use Rattle.machine.proofs.Outcomes.{Holds, holds_guarded, holds_then}
+use Rattle.machine.proofs.Outcomes.{Holds, Stands, holds_guarded, holds_then}
 use Rattle.machine.proofs.Pairs.{found_stands}
 use Rattle.machine.proofs.SettledJobs.{delete_stands, insert_stands, update_stands}
 
@@ -69,9 +69,6 @@ begun_stands below s path (SetPath names) b stands h = subst (BegunStands s) (ok
 
 few_enough : (count : ℕ) → (if nat_lt max_rows count then Some too_many_rows else None) ≡ None → count ≤ max_rows
 few_enough count h = let test : nat_lt max_rows count ≡ false = if_none (nat_lt max_rows count) too_many_rows h in grind (arith, nat_tests)
-
-abbrev Stands : Reply → State → Type 0
-Stands reply t = IsState t
 
 found_written : Below → (s : State) (what : Job) (found : Found) → IsState s → TableStands s found → JobStands (shape_of found.table) what → Holds Stands (written s (site_of s found) what)
 found_written below s what found stands f j =

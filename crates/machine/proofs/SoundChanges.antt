@@ -10,12 +10,13 @@ use Rattle.row_rules.specs.Causes.{value_cause}
 use Rattle.row_rules.specs.Changes.{altered, altered_halves, altered_row, changes, filled_row, matching, new_row, put_all, remade}
 use Rattle.row_rules.specs.Outcome.{map_fault}
 use Rattle.row_rules.specs.Site.{Site, half, halves_on, key_of, other, other_half, shape_of, touched}
+use Rattle.machine.specs.Sites.{OfPut}
 use Rattle.machine.specs.Words.{Cause, Change, Expr, Halves, Job, Kept}
 use Rattle.machine.specs.Words.job
-use Rattle.machine.proofs.Accepting.{every_each, without_ok}
+use Rattle.machine.proofs.Accepting.{without_ok}
 use Rattle.machine.proofs.Filling.{fills}
-use Rattle.machine.proofs.Moving.{map_each}
-use Rattle.machine.proofs.Placing.{OfPut}
+use Rattle.machine.proofs.JobChanges.{Makes, changes_made}
+use Rattle.machine.proofs.Moving.{each}
 
 -- Nothing is wrong with the row.
 abbrev pub IsSound : Site → Kept → Type 0
@@ -37,23 +38,15 @@ altered_sound site sets row made h =
     let values = and_then_ok (map_fault (value_cause row.key) (altered (shape_of site.here) sets (unwrap_or (half site.side step.0) []))) (λ values. remade site row.key row.lost (half (other site.side) step.0) values) made step.2 in
     remade_sound site row.key row.lost (half (other site.side) step.0) values.0 made values.2
 
-all_put : (site : Site) (r : Result (List Kept) Cause) (all : List Change) → ((rows : List Kept) → r ≡ Ok rows → Each (IsSound site) rows) → put_all r ≡ Ok all → Each (OfPut (IsSound site)) all
-all_put site r all h e =
-    let step = and_then_ok r (λ rows. Ok (map Put rows)) all e in
-    subst (Each (OfPut (IsSound site))) (ok_same (map Put step.0) all step.2) (map_each Put (OfPut (IsSound site)) step.0 (h step.0 step.1))
+sound_rows : (site : Site) (rows : List (List Value)) → Each (λ values. (row : Kept) → new_row site values ≡ Ok row → IsSound site row) rows
+sound_rows site [] = tt
+sound_rows site (values ∷ rows) = (new_sound site values, sound_rows site rows)
 
-all_removed : (site : Site) (rows : List Kept) → Each (OfPut (IsSound site)) (map (λ row. Remove row.key) rows)
-all_removed site [] = tt
-all_removed site (row ∷ rows) = (tt, all_removed site rows)
+makes : (site : Site) (what : Job) → Makes (λ row. Unit {0}) (IsSound site) site what
+makes site (job.Put rows) = sound_rows site rows
+makes site (job.Alter sets condition) = λ row made b h. altered_sound site sets row made h
+makes site (job.Remove condition) = tt
+makes site job.Fill = λ row made b h. (fills site row made h).looked
 
 pub changes_sound : (site : Site) (what : Job) (older : List Kept) (all : List Change) → changes site what older ≡ Ok all → Each (OfPut (IsSound site)) all
-changes_sound site (job.Put rows) older all h = all_put site (every (map (new_row site) rows)) all (λ new e. every_each (new_row site) (IsSound site) (new_sound site) rows new e) h
-changes_sound site (job.Alter sets condition) older all h =
-    all_put site (and_then (matching site condition older) (λ rows. every (map (altered_row site sets) rows))) all
-    (λ new e.
-    let step = and_then_ok (matching site condition older) (λ rows. every (map (altered_row site sets) rows)) new e in
-    every_each (altered_row site sets) (IsSound site) (altered_sound site sets) step.0 new step.2) h
-changes_sound site (job.Remove condition) older all h =
-    let step = and_then_ok (matching site condition older) (λ rows. Ok (map (λ row. Remove row.key) rows)) all h in
-    subst (Each (OfPut (IsSound site))) (ok_same (map (λ (row : Kept). Remove row.key) step.0) all step.2) (all_removed site step.0)
-changes_sound site job.Fill older all h = all_put site (every (map (filled_row site) older)) all (λ new e. every_each (filled_row site) (IsSound site) (λ row made f. (fills site row made f).looked) older new e) h
+changes_sound site what older all h = changes_made (λ row. Unit {0}) (IsSound site) site what older all (makes site what) (each (λ row. Unit {0}) (λ row. tt) older) h

@@ -1,6 +1,6 @@
 -- What holds of the machine's steps and runs.
-use Rattle.std.specs.Prelude.{◌≡◌, ◌<◌, ◌≤◌, ◌==◌, ℕ, Bool, true, false, List, None, Ok, is_none, sum_by, if◌then◌else◌}
-use Rattle.std.specs.List.{count_by}
+use Rattle.std.specs.Prelude.{◌≡◌, ◌<◌, ◌≤◌, ◌==◌, ℕ, Bool, true, false, List, None, Ok, is_none, sum_by, if◌then◌else◌, Option, Some}
+use Rattle.std.specs.List.{count_by, AllByRecursion}
 use Rattle.sql_base.specs.declared.shapes.Shape.{Shape}
 use Rattle.sql_base.specs.declared.values.Value.{Value}
 use Rattle.mig_lens.specs.declared.columns.Lens.{Lens}
@@ -18,21 +18,15 @@ use Rattle.row_rules.specs.declared.kinds.Kept.{Kept}
 use Rattle.machine.specs.declared.states.State.{State}
 use Rattle.mig_lens.specs.Layout.{has_mark}
 use Rattle.mig_lens.specs.Lens.{forward, unfilled}
-use Rattle.row_rules.specs.Site.{shown}
-use Rattle.machine.specs.State.{Found, beginning, site_of}
+use Rattle.row_rules.specs.Site.{shown, Beside, Site, number_of, shape_of}
+use Rattle.machine.specs.State.{Found, beginning, site_of, Shared, rows_of, shared, table_of}
 use Rattle.machine.specs.Lawful.{IsLawful}
 use Rattle.machine.specs.Follows.{goes_on_completing, goes_on_filling}
-use Rattle.machine.specs.Standing.{IsState}
-use Rattle.machine.specs.Statement.{max_rows}
+use Rattle.machine.specs.Standing.{IsState, Ascends, RowStands, RowsStand}
+use Rattle.machine.specs.Statement.{max_rows, Shows, Writes, begun}
 use Rattle.machine.specs.Step.{IsPlainStep, LaneRun, LaneStep, Run, Step}
-use Rattle.std.specs.Prelude.{Option, Some}
-use Rattle.std.specs.List.{AllByRecursion}
 use Rattle.row_rules.specs.Changes.{after_changes, changes}
-use Rattle.row_rules.specs.Site.{Site, number_of, shape_of}
-use Rattle.machine.specs.Sites.{ChangeStands, JobStands, PairStands, SiteRow, SiteStands, TableStands}
-use Rattle.machine.specs.Standing.{Ascends, RowStands, RowsStand}
-use Rattle.machine.specs.State.{Shared, rows_of, shared, table_of}
-use Rattle.machine.specs.Statement.{Shows, Writes, begun}
+use Rattle.machine.specs.Sites.{ChangeAgrees, ChangeStands, HalvesAgree, JobStands, PairStands, SiteRow, SiteStands, TableStands}
 use Rattle.machine.specs.Words.{Change, Expr, Items, Job, Stmt}
 
 -- A step leads from such a state to such a state.
@@ -163,3 +157,9 @@ ChangesKeep =
 -- Rows that ascend do so after changes.
 abbrev pub ChangedRowsAscend : Type 0
 ChangedRowsAscend = (all : List Change) (rows : List Kept) → Ascends rows → Ascends (after_changes all rows)
+
+-- In the rows that a job puts carried columns agree, where they do in the rows that it is done to.
+abbrev pub ChangesAgree : Type 0
+ChangesAgree =
+    (site : Site) (beside : Beside) (what : Job) (older : List Kept) (all : List Change) → SiteStands site → site.there ≡ Some beside → AllByRecursion (λ row. HalvesAgree beside.lens row.halves) older →
+    changes site what older ≡ Ok all → AllByRecursion (ChangeAgrees beside.lens) all

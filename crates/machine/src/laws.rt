@@ -1,9 +1,9 @@
 //! Laws of the machine, over its definitions alone. Each is the contract of a function that does nothing.
 ghost use Rattle.machine.specs.Below.{Below};
-ghost use Rattle.machine.specs.Laws.{StepsKeepStates, RunsReachStates, RefusalsChangeNothing, BegunHalvesAreMade, OldShowsOldHalves, PlainStepsAreSteps, LaneStepsAreSteps, LaneRunsAreRuns, StepsKeepLaws, RunsReachLawful, OnlyCommandsAreRefused, BatchesLeaveFewer, UnfilledRowsAreFew, StepsLeaveFewer, StepsAreFew, FoundStands, WritesStand, ShowsStand, SharedStands, FillingStands, RowsStandBy, RowsOnSites, ChangesKeep, ChangedRowsAscend};
+ghost use Rattle.machine.specs.Laws.{StepsKeepStates, RunsReachStates, RefusalsChangeNothing, BegunHalvesAreMade, OldShowsOldHalves, PlainStepsAreSteps, LaneStepsAreSteps, LaneRunsAreRuns, StepsKeepLaws, RunsReachLawful, OnlyCommandsAreRefused, BatchesLeaveFewer, UnfilledRowsAreFew, StepsLeaveFewer, StepsAreFew, FoundStands, WritesStand, ShowsStand, SharedStands, FillingStands, RowsStandBy, RowsOnSites, ChangesKeep, ChangedRowsAscend, ChangesAgree};
 
 use mig_lens::laws::{
-    added_columns_keep_tables, made_halves_fit, planned_lenses_join,
+    added_columns_keep_tables, carried_columns_keep_their_values, made_halves_fit, planned_lenses_join,
     planned_schemas_are_well_formed,
 };
 use sql_eval::laws::typed_values_are_of_their_types;
@@ -14,6 +14,7 @@ fn laws_below()
 {
     typed_values_are_of_their_types();
     made_halves_fit();
+    carried_columns_keep_their_values();
     planned_lenses_join();
     planned_schemas_are_well_formed();
     added_columns_keep_tables();
@@ -99,6 +100,14 @@ pub fn sites_stand()
     ensures on_site { RowsOnSites }
     ensures changes { ChangesKeep }
     ensures ascend { ChangedRowsAscend }
+{
+    laws_below();
+}
+
+/// Where rows are put by a job of a shared table, a column that is carried has one value in both halves, if it has in the
+/// rows that they are made of.
+pub fn carried_columns_agree()
+    ensures { ChangesAgree }
 {
     laws_below();
 }
