@@ -4,7 +4,7 @@ use Rattle.std.specs.List.{AllByRecursion as Each}
 use Rattle.std.specs.Option.{option_map_or}
 use Rattle.row_rules.specs.Changes.{after_changes, changes}
 use Rattle.row_rules.specs.Site.{number_of, shape_of}
-use Rattle.machine.specs.Sites.{ChangeStands, JobStands, SiteRow, TableStands}
+use Rattle.machine.specs.Sites.{OfPut, ChangeStands, JobStands, SiteRow, TableStands}
 use Rattle.machine.specs.Standing.{Ascends, IsState, NoneLost, NothingLost, RowStands, RowsStand, may_lose}
 use Rattle.machine.specs.State.{Found, lost_columns_of, row_count, rows_of, site_of, with_rows}
 use Rattle.machine.specs.Statement.{max_rows}
@@ -13,7 +13,7 @@ use Rattle.row_rules.specs.declared.kinds.Change.TheVariants.{Put, Remove}
 use Rattle.machine.specs.Below.{Below}
 use Rattle.machine.proofs.FoundSites.{row_off_site, row_on_site, site_stands}
 use Rattle.machine.proofs.Moving.{each_both, each_so}
-use Rattle.machine.proofs.Placing.{OfPut, changed_ascend, changed_each}
+use Rattle.machine.proofs.Placing.{changed_ascend, changed_each}
 use Rattle.machine.proofs.Replacing.{each_row, refilled_stands, replaced_stands, rows_each, rows_so, rows_stand}
 use Rattle.machine.proofs.SiteChanges.{changes_stand}
 
@@ -36,10 +36,6 @@ none_lost_each : (s : State) (rows : List Kept) → Each (λ row. LostIn s row.l
 none_lost_each s [] h none = tt
 none_lost_each s (row ∷ rows) h none = (h.0 none, none_lost_each s rows h.1 none)
 
-as_put : (Lost : ℕ → Type 0) (s : State) (found : Found) (change : Change) → ChangeStands Lost (site_of s found) change → OfPut (SiteRow Lost (site_of s found)) change
-as_put Lost s found (Put row) h = h
-as_put Lost s found (Remove key) h = tt
-
 module _ (below : Below) (s : State) (stands : IsState s) (found : Found) (f : TableStands s found) where
   -- The rows of the table stand on its site.
   pub rows_on_site : Each (SiteRow (LostIn s) (site_of s found)) (rows_of s (number_of found.table))
@@ -55,7 +51,7 @@ module _ (below : Below) (s : State) (stands : IsState s) (found : Found) (f : T
   changed_rows what some all j each_stands h =
       let site = site_of s found in
       let put = changes_stand (LostIn s) below site (site_stands s stands found f) what some all j (new_lost s (number_of found.table) stands) each_stands h in
-      changed_each (SiteRow (LostIn s) site) all (rows_of s (number_of found.table)) (each_so (ChangeStands (LostIn s) site) (OfPut (SiteRow (LostIn s) site)) (as_put (LostIn s) s found) all put) rows_on_site
+      changed_each (SiteRow (LostIn s) site) all (rows_of s (number_of found.table)) put rows_on_site
 
   rows_off_site : (rows : List Kept) → Each (SiteRow (LostIn s) (site_of s found)) rows → RowsStand s (number_of found.table) rows × (may_lose s.kind s.left ≡ false → NoneLost rows)
   rows_off_site rows h =

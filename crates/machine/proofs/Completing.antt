@@ -27,7 +27,7 @@ use Rattle.machine.specs.Statement.{max_rows}
 use Rattle.machine.specs.Done.{CommandOutcome}
 use Rattle.machine.specs.Migrate.{complete, completed, completed_row, finish, invalid, may_not_complete, not_filled, not_filled_in, not_valid, numbers_of, stepped, table_without_loss, tidied, without_loss}
 use Rattle.machine.specs.Standing.{HalfStands, IsState, ModeStands, NewStands, NewerStands, NoneLost, NumbersAscend, RowStands, StepsStand, TablesStand, VersionStands, may_lose, may_miss}
-use Rattle.machine.proofs.Outcomes.{Holds, holds_without}
+use Rattle.machine.proofs.Outcomes.{Holds, Stands, holds_without}
 use Rattle.machine.proofs.Replacing.{row_carries}
 use Rattle.machine.proofs.Tidying.{completing_so, emptied, ended, tidied_so}
 use Rattle.machine.proofs.SiteHalves.{new_half}
@@ -83,7 +83,7 @@ ended_stands s stands is left =
     }
 
 tidied_stands : (s : State) → IsState s → s.kind ≡ kind.Complete → IsState (tidied s).after
-tidied_stands s stands is = tidied_so s (λ reply t. IsState t) (s.left == 2) (λ two. emptied_stands s stands is) (λ last. ended_stands s stands is last)
+tidied_stands s stands is = tidied_so s Stands (s.left == 2) (λ two. emptied_stands s stands is) (λ last. ended_stands s stands is last)
 
 -- ---- no new half is missing
 
@@ -180,9 +180,6 @@ completed_state s name schema fates is stands newer none =
         (ascends_mapped (completed_row (lens_among fates u.0)) (λ row. refl) u.1 ascend, rows_mapped s (completed s name schema fates) u.0 (completed_row (lens_among fates u.0)) u.1 one stand)
 
 -- ---- every step of completing
-
-abbrev Stands : Reply → State → Type 0
-Stands reply t = IsState t
 
 finished_stands : (s : State) (m : Mode) → s.mode ≡ m → IsState s → Holds Stands (finish s m)
 finished_stands s Calm is stands = tt

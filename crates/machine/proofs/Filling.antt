@@ -25,7 +25,7 @@ use Rattle.machine.proofs.Accepting.{map_fault_ok, without_ok}
 use Rattle.machine.specs.Below.{Below}
 use Rattle.machine.proofs.Changing.{LostIn, refilled_so, rows_on_site}
 use Rattle.machine.proofs.Moving.{each_so, either_way, filter_each}
-use Rattle.machine.proofs.Outcomes.{Holds, holds_then, holds_without}
+use Rattle.machine.proofs.Outcomes.{Holds, Stands, holds_then, holds_without}
 use Rattle.machine.proofs.Pairs.{new_stands}
 use Rattle.machine.proofs.Placing.{after_puts, put_rows, put_rows_known_keys}
 use Rattle.machine.proofs.Replacing.{rows_stand}
@@ -99,9 +99,6 @@ filled_keys s number site p all stands f =
     ap keys_of puts ∙ put_rows_known_keys f.new rows (rows_stand s number stands).0 known
 
 -- ---- the batch
-
-abbrev Stands : Reply → State → Type 0
-Stands reply t = IsState t
 
 batch_stands : Below → (s : State) (pair : Shared) (p : Kept → Bool) → IsState s → TableStands s (record { side = New; table = pair.new }) → Holds Stands (batch s pair (filter p (rows_of s (number_of pair.new))))
 batch_stands below s pair p stands f =

@@ -19,22 +19,22 @@ use Rattle.machine.specs.Words.{Cause, Change, Deep, DeleteFrom, Expr, InsertInt
 use Rattle.machine.proofs.Accepting.{guarded_ok, if_none, map_fault_ok, ok_or_ok}
 use Rattle.machine.specs.Below.{Below}
 use Rattle.machine.proofs.Changing.{changed_stands, rows_on_site}
-use Rattle.machine.proofs.Outcomes.{Holds, holds_guarded, holds_then}
+use Rattle.machine.proofs.Outcomes.{Holds, Stands, holds_guarded, holds_then}
 use Rattle.machine.proofs.Pairs.{found_stands}
 use Rattle.machine.proofs.SettledJobs.{delete_stands, insert_stands, update_stands}
 
 -- ---- the begin of a statement
 
--- What was begun on a table of a state that stands.
-pub record WritesStand (s : State) (site : Site) (what : Job) : Type 0 where
+-- The site is that of a table that stands.
+pub record OfFound (s : State) (site : Site) : Type 0 where
   pub found : Found
   pub stands : TableStands s found
   pub is : site ≡ site_of s found
-  pub job : JobStands (shape_of found.table) what
 
+-- What was begun on a table of a state that stands.
 abbrev pub BegunStands : State → Begun → Type 0
-BegunStands s (Writes site what) = WritesStand s site what
-BegunStands s (Shows site items condition) = Unit {0}
+BegunStands s (Writes site what) = OfFound s site × JobStands (shape_of site.here) what
+BegunStands s (Shows site items condition) = OfFound s site
 BegunStands s Sets = Unit {0}
 
 on_table_stands : (s : State) (path : List (List ℕ)) (name : List ℕ) (next : Site → Result Begun Reply) (b : Begun) → IsState s → on_table s path name next ≡ Ok b → ((found : Found) → TableStands s found → next (site_of s found) ≡ Ok b → BegunStands s b) → BegunStands s b
@@ -45,7 +45,7 @@ on_table_stands s path name next b stands h more =
 writes_stand : (s : State) (found : Found) (r : Result Job SqlError) (b : Begun) → TableStands s found → ((what : Job) → r ≡ Ok what → JobStands (shape_of found.table) what) → writes (site_of s found) r ≡ Ok b → BegunStands s b
 writes_stand s found r b f j h =
     let step = and_then_ok (map_fault error_reply r) (λ what. Ok (Writes (site_of s found) what)) b h in
-    subst (BegunStands s) (ok_same (Writes (site_of s found) step.0) b step.2) (record { found = found; stands = f; is = refl; job = j step.0 (map_fault_ok error_reply r step.0 step.1) })
+    subst (BegunStands s) (ok_same (Writes (site_of s found) step.0) b step.2) (record { found = found; stands = f; is = refl }, j step.0 (map_fault_ok error_reply r step.0 step.1))
 
 pub begun_stands : Below → (s : State) (path : List (List ℕ)) (stmt : Stmt) (b : Begun) → IsState s → begun s path stmt ≡ Ok b → BegunStands s b
 begun_stands below s path (InsertInto name names rows) b stands h =
@@ -62,16 +62,13 @@ begun_stands below s path (DeleteFrom name condition) b stands h =
 begun_stands below s path (Query name items condition) b stands h =
     let next : Site → Result Begun Reply = λ site. guarded (option_map error_reply (query_error (shape_of site.here) items condition)) (Ok (Shows site items condition)) in
     on_table_stands s path name next b stands h
-    (λ found f e. subst (BegunStands s) (ok_same (Shows (site_of s found) items condition) b (guarded_ok (option_map error_reply (query_error (shape_of found.table) items condition)) (Ok (Shows (site_of s found) items condition)) b e).1) tt)
+    (λ found f e. subst (BegunStands s) (ok_same (Shows (site_of s found) items condition) b (guarded_ok (option_map error_reply (query_error (shape_of found.table) items condition)) (Ok (Shows (site_of s found) items condition)) b e).1) (record { found = found; stands = f; is = refl }))
 begun_stands below s path (SetPath names) b stands h = subst (BegunStands s) (ok_same Sets b h) tt
 
 -- ---- its end
 
 few_enough : (count : ℕ) → (if nat_lt max_rows count then Some too_many_rows else None) ≡ None → count ≤ max_rows
 few_enough count h = let test : nat_lt max_rows count ≡ false = if_none (nat_lt max_rows count) too_many_rows h in grind (arith, nat_tests)
-
-abbrev Stands : Reply → State → Type 0
-Stands reply t = IsState t
 
 found_written : Below → (s : State) (what : Job) (found : Found) → IsState s → TableStands s found → JobStands (shape_of found.table) what → Holds Stands (written s (site_of s found) what)
 found_written below s what found stands f j =
@@ -84,7 +81,8 @@ found_written below s what found stands f j =
     changed_stands below s stands found f what rows all j (rows_on_site below s stands found f) (map_fault_ok (λ (cause : Cause). error_reply (row_error cause)) (changes site what rows) all made) few))
 
 finished_stands : Below → (s : State) (b : Begun) → IsState s → BegunStands s b → Holds Stands (finished s b)
-finished_stands below s (Writes site what) stands w = subst (λ site. Holds Stands (written s site what)) (sym w.is) (found_written below s what w.found stands w.stands w.job)
+finished_stands below s (Writes site what) stands w =
+    subst (λ site. Holds Stands (written s site what)) (sym w.0.is) (found_written below s what w.0.found stands w.0.stands (subst (λ site. JobStands (shape_of site.here) what) w.0.is w.1))
 finished_stands below s (Shows site items condition) stands w =
     holds_then Stands (map_fault error_reply (rows_shown site items condition max_reply (rows_of s (number_of site.here)))) (λ rows. Ok (answered s (Select rows))) (λ rows e. stands)
 finished_stands below s Sets stands w = stands

@@ -12,9 +12,14 @@ use Rattle.machine.specs.declared.states.State.{State}
 use Rattle.mig_lens.specs.declared.faults.Refusal.{Refusal}
 use Rattle.machine.specs.Done.{CommandOutcome, Done, Outcome, Wrote, answered, as_outcome}
 use Rattle.machine.specs.Migrate.{complete, fill_keys, may_not_fill, start, unfilled_tables}
+use Rattle.machine.specs.Standing.{IsState}
 use Rattle.machine.specs.State.{missing_keys}
 use Rattle.machine.specs.Statement.{no_memory}
 use Rattle.machine.specs.Step.{ComesTo, Comes, FillStep, FillsSome, FindsNoMemory, Makes, Step, line_outcome}
+
+-- The state afterwards stands.
+abbrev pub Stands : Reply → State → Type 0
+Stands reply t = IsState t
 
 -- It holds of what was accepted, if it was.
 abbrev pub Holds : {E : Type 0} → (Reply → State → Type 0) → Result Done E → Type 0

@@ -9,6 +9,7 @@ use Rattle.row_rules.specs.declared.kinds.Change.TheVariants.{Put, Remove}
 use Rattle.row_rules.specs.declared.kinds.Kept.{Kept}
 use Rattle.row_rules.specs.Accept.{has_key, keys_of}
 use Rattle.row_rules.specs.Changes.{after_change, after_changes, put_row}
+use Rattle.machine.specs.Sites.{OfPut}
 use Rattle.machine.specs.Standing.{Ascends}
 use Rattle.machine.proofs.Moving.{filter_each}
 
@@ -113,11 +114,6 @@ pub changed_ascend : (all : List Change) (rows : List Kept) → Ascends rows →
 changed_ascend [] rows h = h
 changed_ascend (Put row ∷ all) rows h = changed_ascend all (put_row row rows) (put_ascends row rows h)
 changed_ascend (Remove key ∷ all) rows h = changed_ascend all (filter (λ row. not (int_eq row.key key)) rows) (filter_ascends (λ row. not (int_eq row.key key)) rows h)
-
--- It holds of a row that is put.
-abbrev pub OfPut : (Kept → Type 0) → Change → Type 0
-OfPut P (Put row) = P row
-OfPut P (Remove key) = Unit {0}
 
 -- What holds of each row, and of each that is put, holds afterwards.
 pub changed_each : (P : Kept → Type 0) (all : List Change) (rows : List Kept) → Each (OfPut P) all → Each P rows → Each P (after_changes all rows)

@@ -8,7 +8,7 @@ use Rattle.machine.specs.Below.{Below}
 use Rattle.machine.proofs.Completing.{completed_stands}
 use Rattle.machine.proofs.Filling.{filled_stands}
 use Rattle.machine.proofs.Lines.{line_stands}
-use Rattle.machine.proofs.Outcomes.{Events, step_so}
+use Rattle.machine.proofs.Outcomes.{Events, Stands, step_so}
 use Rattle.machine.proofs.Starting.{started_stands}
 use Rattle.machine.specs.Migrate.{numbers_of}
 use Rattle.machine.specs.Step.{Run}
@@ -21,7 +21,7 @@ use Rattle.machine.specs.Standing.{IsState, VersionStands}
 
 -- ---- one step
 
-stay : (s : State) → Below → IsState s → Events s (λ reply t. IsState t)
+stay : (s : State) → Below → IsState s → Events s Stands
 stay s below stands =
     record {
       refused = λ reply. stands;
@@ -32,7 +32,7 @@ stay s below stands =
     }
 
 pub steps_keep_states : Below → StepsKeepStates
-steps_keep_states below s what reply t step stands = step_so s (λ reply t. IsState t) (stay s below stands) what reply t step
+steps_keep_states below s what reply t step stands = step_so s Stands (stay s below stands) what reply t step
 
 -- ---- the beginning
 

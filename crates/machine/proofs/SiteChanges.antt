@@ -22,7 +22,8 @@ use Rattle.machine.specs.Words.job
 use Rattle.machine.proofs.Accepting.{every_made, map_fault_ok}
 use Rattle.machine.specs.Below.{Below}
 use Rattle.machine.proofs.GivenValues.{Suits, evaluated_suits, given_fits, given_stays, lookup_none, suit_from}
-use Rattle.machine.proofs.Moving.{each_so, map_each}
+use Rattle.machine.proofs.JobChanges.{Makes, changes_made}
+use Rattle.machine.proofs.Moving.{each_so}
 use Rattle.machine.proofs.SiteHalves.{Touched, filled_row_stands, new_row_stands, remade_stands, same_key, touched_stands}
 
 -- ---- assignments
@@ -52,33 +53,7 @@ altered_fits typed shape sets row values s fit h =
     subst (λ vs. (row_fits shape vs ≡ true) × (key_of shape vs ≡ key_of shape row)) (ok_same made values step.2)
     (all_true (fits_columns shape.columns made) (is_integer (slice_index_or made shape.key Null)) columns (ap is_integer stays ∙ parts.1), same_key shape made shape row stays)
 
--- ---- rows that pass
-
--- It holds of a row, where there is one.
-abbrev IfThere : (Kept → Type 0) → Option Kept → Type 0
-IfThere P None = Unit {0}
-IfThere P (Some row) = P row
-
-passed_there : (P : Kept → Type 0) (site : Site) (condition : Option Expr) (row : Kept) (o : Option Kept) → P row → row_passed site condition row ≡ Ok o → IfThere P o
-passed_there P site condition row o p h =
-    let step = and_then_ok (map_fault (value_cause row.key) (passes (shape_of site.here) condition (shown site row.halves))) (λ passed. Ok (if passed then Some row else None)) o h in
-    subst (IfThere P) (ok_same (if step.0 then Some row else None) o step.2) (by_test step.0)
-  where
-    by_test : (b : Bool) → IfThere P (if b then Some row else None)
-    by_test true = p
-    by_test false = tt
-
-all_there : (P : Kept → Type 0) (found : List (Option Kept)) → Each (IfThere P) found → Each P (filter_map (λ row. row) found)
-all_there P [] h = tt
-all_there P (None ∷ found) h = all_there P found h.1
-all_there P (Some row ∷ found) h = (h.0, all_there P found h.1)
-
--- What holds of rows holds of those that pass.
-pub matching_each : (P : Kept → Type 0) (site : Site) (condition : Option Expr) (rows passed : List Kept) → Each P rows → matching site condition rows ≡ Ok passed → Each P passed
-matching_each P site condition rows passed p h =
-    let step = and_then_ok (every (map (row_passed site condition) rows)) (λ passed. Ok (filter_map (λ row. row) passed)) passed h in
-    let there = every_made (row_passed site condition) P (IfThere P) (passed_there P site condition) rows step.0 p step.1 in
-    subst (Each P) (ok_same (filter_map (λ row. row) step.0) passed step.2) (all_there P step.0 there)
+-- ---- the rows of a job
 
 module _ (Lost : ℕ → Type 0) (below : Below) (site : Site) (stands : SiteStands site) where
   half_there : (key : ℤ) (half : Option (List Value)) → HalfStands (Some site.here) key half → HalfStands (Some site.here) key (Some (unwrap_or half []))
@@ -100,29 +75,11 @@ module _ (Lost : ℕ → Type 0) (below : Below) (site : Site) (stands : SiteSta
       let begun = touched_stands Lost below site stands row step.0 r (map_fault_ok (value_cause row.key) (touched site row.halves) step.0 step.1) in
       altered_halves_stand sets row step.0 made s r.lost begun step.2
 
-  -- ---- the changes of a job
-
-  all_put : (r : Result (List Kept) Cause) (all : List Change) → ((rows : List Kept) → r ≡ Ok rows → Each (SiteRow Lost site) rows) → put_all r ≡ Ok all → Each (ChangeStands Lost site) all
-  all_put r all h e =
-      let step = and_then_ok r (λ rows. Ok (map Put rows)) all e in
-      subst (Each (ChangeStands Lost site)) (ok_same (map Put step.0) all step.2) (map_each Put (ChangeStands Lost site) step.0 (h step.0 step.1))
-
-  all_removed : (rows : List Kept) → Each (ChangeStands Lost site) (map (λ row. Remove row.key) rows)
-  all_removed [] = tt
-  all_removed (row ∷ rows) = (tt, all_removed rows)
+  makes : (what : Job) → JobStands (shape_of site.here) what → Lost site.lost → Makes (SiteRow Lost site) (SiteRow Lost site) site what
+  makes (job.Put rows) j l = each_so (λ values. row_fits (shape_of site.here) values ≡ true) (λ values. (row : Kept) → new_row site values ≡ Ok row → SiteRow Lost site row) (λ values fit row. new_row_stands Lost below site stands l values row fit) rows j
+  makes (job.Alter sets condition) j l = altered_row_stands sets j
+  makes (job.Remove condition) j l = tt
+  makes job.Fill j l = filled_row_stands Lost below site stands
 
   pub changes_stand : (what : Job) (older : List Kept) (all : List Change) → JobStands (shape_of site.here) what → Lost site.lost → Each (SiteRow Lost site) older → changes site what older ≡ Ok all → Each (ChangeStands Lost site) all
-  changes_stand (job.Put rows) older all j l r h =
-      all_put (every (map (new_row site) rows)) all
-      (λ new e. every_made (new_row site) (λ values. row_fits (shape_of site.here) values ≡ true) (SiteRow Lost site) (new_row_stands Lost below site stands l) rows new j e) h
-  changes_stand (job.Alter sets condition) older all j l r h =
-      all_put (and_then (matching site condition older) (λ rows. every (map (altered_row site sets) rows))) all
-      (λ new e.
-      let step = and_then_ok (matching site condition older) (λ rows. every (map (altered_row site sets) rows)) new e in
-      every_made (altered_row site sets) (SiteRow Lost site) (SiteRow Lost site) (altered_row_stands sets j) step.0 new (matching_each (SiteRow Lost site) site condition older step.0 r step.1) step.2) h
-  changes_stand (job.Remove condition) older all j l r h =
-      let step = and_then_ok (matching site condition older) (λ rows. Ok (map (λ row. Remove row.key) rows)) all h in
-      subst (Each (ChangeStands Lost site)) (ok_same (map (λ (row : Kept). Remove row.key) step.0) all step.2) (all_removed step.0)
-  changes_stand job.Fill older all j l r h =
-      all_put (every (map (filled_row site) older)) all
-      (λ new e. every_made (filled_row site) (SiteRow Lost site) (SiteRow Lost site) (filled_row_stands Lost below site stands) older new r e) h
+  changes_stand what older all j l r h = changes_made (SiteRow Lost site) (SiteRow Lost site) site what older all (makes what j l) r h

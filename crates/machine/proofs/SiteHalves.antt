@@ -78,7 +78,7 @@ abbrev table_there : Option Beside → Option Table
 table_there there = option_map (λ beside. beside.table) there
 
 -- A site, piece by piece.
-abbrev site_at : Side → Table → Option Beside → ℕ → Site
+abbrev pub site_at : Side → Table → Option Beside → ℕ → Site
 site_at side here there lost = record { side = side; here = here; there = there; lost = lost }
 
 other_made : Below → (side : Side) (here : Table) (there : Option Beside) (lost : ℕ) → BesideStands side here there → (values : List Value) (before made : Option (List Value)) → row_fits (shape_of here) values ≡ true → FitsThere there before →

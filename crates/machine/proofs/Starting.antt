@@ -42,7 +42,7 @@ use Rattle.row_rules.specs.Steps.{begun_half, begun_row}
 use Rattle.machine.specs.Standing.{AllBelow, Ascends, HalfStands, IsState, NewStands, NoneLost, NumbersAscend, RowStands, RowsStand, VersionStands, may_miss}
 use Rattle.machine.proofs.Moving.{Carries, Rows, ascends_mapped, counts_kept, each, each_among, each_so, map_each, numbers_kept, rows_mapped, tables_mapped}
 use Rattle.machine.specs.Below.{Below}
-use Rattle.machine.proofs.Outcomes.{Holds, holds_guarded, holds_then, holds_without}
+use Rattle.machine.proofs.Outcomes.{Holds, Stands, holds_guarded, holds_then, holds_without}
 use Rattle.machine.proofs.SiteHalves.{same_key}
 use Rattle.machine.proofs.Joining.{Pair, paired}
 
@@ -268,9 +268,6 @@ begins_so s m plan allowed is =
 -- What a migration that is started begins with stands.
 pub planned_stands : Below → (s : State) (m : Migration) (plan : Plan) → IsState s → may_not_start s m ≡ None → planned s m ≡ Ok plan → IsState (started s m.name plan)
 planned_stands below s m plan stands allowed is = started_state below s m plan stands (begins_so s m plan allowed is)
-
-abbrev Stands : Reply → State → Type 0
-Stands reply t = IsState t
 
 -- Starting a migration leads from a state that stands to one.
 pub started_stands : Below → (s : State) (asked : Asked) → IsState s → Holds Stands (start s asked)

@@ -1,17 +1,17 @@
 -- What holds of a table as a statement meets it, and of its rows, in a state that stands.
-use Rattle.std.specs.Prelude.{◌≡◌, ℕ, ◌==◌, Bool, true, false, Option, Some, None}
+use Rattle.std.specs.Prelude.{◌≡◌, ℕ, ◌==◌, List, Bool, true, false, slice_index_or, Option, Some, None}
 use Rattle.std.specs.List.{AllByRecursion}
 use Rattle.std.specs.Option.{option_map, option_map_or}
 use Rattle.sql_base.specs.Fit.{row_fits}
 use Rattle.sql_eval.specs.Shape.{WellFormed}
 use Rattle.mig_lens.specs.Layout.{has_mark}
-use Rattle.mig_lens.specs.Lens.{IsWellFormed, fits}
+use Rattle.mig_lens.specs.Lens.{IsWellFormed, carries, fits}
 use Rattle.row_rules.specs.declared.kinds.Change.TheVariants.{Put, Remove}
 use Rattle.row_rules.specs.Settle.{value_error}
 use Rattle.row_rules.specs.Site.{Beside, Site, number_of, shape_of}
 use Rattle.machine.specs.State.{Found, Shared, table_on}
 use Rattle.machine.specs.Standing.{HalfStands, NewStands}
-use Rattle.machine.specs.Words.{Change, Expr, Job, Kept, Lens, New, Old, Shape, Side, State, Table}
+use Rattle.machine.specs.Words.{Change, Expr, Halves, Job, Kept, Lens, New, Null, Old, Shape, Side, State, Table, Value}
 use Rattle.machine.specs.Words.job
 
 -- ---- the site
@@ -90,7 +90,21 @@ JobStands shape (job.Alter sets condition) = AllByRecursion (SetStands shape) se
 JobStands shape (job.Remove condition) = Unit {0}
 JobStands shape job.Fill = Unit {0}
 
+-- It holds of the row, where one is put.
+abbrev pub OfPut : (Kept → Type 0) → Change → Type 0
+OfPut Holds (Put row) = Holds row
+OfPut Holds (Remove key) = Unit {0}
+
 -- A row that is put stands.
 abbrev pub ChangeStands : (ℕ → Type 0) → Site → Change → Type 0
-ChangeStands Lost site (Put row) = SiteRow Lost site row
-ChangeStands Lost site (Remove key) = Unit {0}
+ChangeStands Lost site change = OfPut (SiteRow Lost site) change
+
+-- ---- what two halves have in common
+
+-- A column that is carried has one value in both halves.
+abbrev pub HalvesAgree : Lens → Halves → Type 0
+HalvesAgree lens halves = (old new : List Value) (i j : ℕ) → halves.old ≡ Some old → halves.new ≡ Some new → carries lens.new_cols i j ≡ true → slice_index_or new i Null ≡ slice_index_or old j Null
+
+-- So it is in a row that is put.
+abbrev pub ChangeAgrees : Lens → Change → Type 0
+ChangeAgrees lens change = OfPut (λ row. HalvesAgree lens row.halves) change

@@ -1,9 +1,9 @@
 //! Laws of the machine, over its definitions alone. Each is the contract of a function that does nothing.
 ghost use Rattle.machine.specs.Below.{Below};
-ghost use Rattle.machine.specs.Laws.{StepsKeepStates, RunsReachStates, RefusalsChangeNothing, BegunHalvesAreMade, OldShowsOldHalves, PlainStepsAreSteps, LaneStepsAreSteps, LaneRunsAreRuns, StepsKeepLaws, RunsReachLawful, OnlyCommandsAreRefused, BatchesLeaveFewer, UnfilledRowsAreFew, StepsLeaveFewer, StepsAreFew};
+ghost use Rattle.machine.specs.Laws.{StepsKeepStates, RunsReachStates, RefusalsChangeNothing, BegunHalvesAreMade, OldShowsOldHalves, PlainStepsAreSteps, LaneStepsAreSteps, LaneRunsAreRuns, StepsKeepLaws, RunsReachLawful, OnlyCommandsAreRefused, BatchesLeaveFewer, UnfilledRowsAreFew, StepsLeaveFewer, StepsAreFew, FoundStands, WritesStand, ShowsStand, SharedStands, FillingStands, RowsStandBy, RowsOnSites, ChangesKeep, ChangedRowsAscend, ChangesAgree};
 
 use mig_lens::laws::{
-    added_columns_keep_tables, made_halves_fit, planned_lenses_join,
+    added_columns_keep_tables, carried_columns_keep_their_values, made_halves_fit, planned_lenses_join,
     planned_schemas_are_well_formed,
 };
 use sql_eval::laws::typed_values_are_of_their_types;
@@ -14,6 +14,7 @@ fn laws_below()
 {
     typed_values_are_of_their_types();
     made_halves_fit();
+    carried_columns_keep_their_values();
     planned_lenses_join();
     planned_schemas_are_well_formed();
     added_columns_keep_tables();
@@ -85,3 +86,28 @@ pub fn completing_comes_to_an_end()
     ensures fewer { StepsLeaveFewer }
     ensures few { StepsAreFew }
 {}
+
+/// In a state that stands a table that a path finds is its version's, its shape is well formed, and the lens of its site,
+/// where there is one, joins the two shapes; so it is with the site of a statement and with that of a batch. The rows of
+/// a number ascend by key, and each has its halves, which fit the shapes and have its key. A job's changes keep it so.
+pub fn sites_stand()
+    ensures found { FoundStands }
+    ensures writes { WritesStand }
+    ensures shows { ShowsStand }
+    ensures shared { SharedStands }
+    ensures filling { FillingStands }
+    ensures rows { RowsStandBy }
+    ensures on_site { RowsOnSites }
+    ensures changes { ChangesKeep }
+    ensures ascend { ChangedRowsAscend }
+{
+    laws_below();
+}
+
+/// Where rows are put by a job of a shared table, a column that is carried has one value in both halves, if it has in the
+/// rows that they are made of.
+pub fn carried_columns_agree()
+    ensures { ChangesAgree }
+{
+    laws_below();
+}
