@@ -9,8 +9,10 @@
 //! (`refused_together`).
 #![tactic(auto)]
 
+mod acceptance;
 pub mod causes;
 mod changing;
+mod halves;
 mod kinds;
 mod rows;
 mod settling;
