@@ -14,6 +14,7 @@ pub mod causes;
 mod changing;
 mod halves;
 mod kinds;
+mod outcomes;
 mod rows;
 mod settling;
 mod showing;

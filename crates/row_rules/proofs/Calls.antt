@@ -1,0 +1,26 @@
+-- One more call of a list of calls.
+use Rattle.std.proofs.Common.{◌≡◌, List, [], ◌∷◌, ◌++◌, Result, Ok, Err, map, refl, sym, ap, append_assoc}
+use Rattle.sql_base.specs.Outcome.{and_then, every}
+use Rattle.row_rules.specs.Changes.{put_all}
+use Rattle.row_rules.specs.Outcome.{Answers}
+use Rattle.row_rules.specs.Words.{Cause, Change, Kept, Put}
+use Rattle.row_rules.specs.declared.stops.Stop.{Stop}
+use Rattle.row_rules.specs.declared.stops.Stop.TheVariants.{Because, NoMemory}
+
+-- what so many changes come to with the rest, which may be refused
+abbrev pub after : List Change → Result (List Change) Cause → Result (List Change) Cause
+after done rest = and_then rest (λ more. Ok (done ++ more))
+
+pub stops_at : {A : Type 0} (h : A → Result Kept Cause) (x : A) (xs : List A) (done : List Change) (stop : Stop Cause) → Answers (h x) (Err stop)
+    → Answers (after done (put_all (every (map h (x ∷ xs))))) (Err stop)
+stops_at h x xs done (Because cause) now = rw now refl
+stops_at h x xs done NoMemory now = tt
+
+pub goes_on : {A : Type 0} (h : A → Result Kept Cause) (x : A) (xs : List A) (done : List Change) (row : Kept) → h x ≡ Ok row
+    → after done (put_all (every (map h (x ∷ xs)))) ≡ after (done ++ Put row ∷ []) (put_all (every (map h xs)))
+goes_on h x xs done row now = rw now (by_rest (every (map h xs)))
+  where
+    by_rest : (rest : Result (List Kept) Cause) →
+        after done (put_all (and_then rest (λ rows. Ok (row ∷ rows)))) ≡ after (done ++ Put row ∷ []) (put_all rest)
+    by_rest (Ok rows) = ap (λ all. Ok all) (sym (append_assoc done (Put row ∷ []) (map Put rows)))
+    by_rest (Err cause) = refl
