@@ -24,3 +24,11 @@ goes_on h x xs done row now = rw now (by_rest (every (map h xs)))
         after done (put_all (and_then rest (λ rows. Ok (row ∷ rows)))) ≡ after (done ++ Put row ∷ []) (put_all rest)
     by_rest (Ok rows) = ap (λ all. Ok all) (sym (append_assoc done (Put row ∷ []) (map Put rows)))
     by_rest (Err cause) = refl
+
+-- A step that may be refused, and the next one.
+pub went_on : {T U E : Type 0} (wanted : Result T E) (next : T → Result U E) (value : T) (r : Result U (Stop E)) → wanted ≡ Ok value → Answers (next value) r → Answers (and_then wanted next) r
+went_on wanted next value r h n = rw h n
+
+pub stopped : {T U E : Type 0} (wanted : Result T E) (next : T → Result U E) (stop : Stop E) → Answers wanted (Err stop) → Answers (and_then wanted next) (Err stop)
+stopped wanted next (Because cause) h = rw h refl
+stopped wanted next NoMemory h = tt

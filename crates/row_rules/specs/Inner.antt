@@ -1,19 +1,25 @@
 -- What the layer's own steps stand for. No public contract rests on these words.
-use Rattle.std.specs.Prelude.{◌≡◌, ℤ, List, Bool, false, not, ◌&&◌, Option, Some, None, Result, Ok, map, if◌then◌else◌}
+use Rattle.std.specs.Prelude.{◌≡◌, ℕ, ℤ, List, [], Bool, false, not, ◌&&◌, Option, Some, None, Result, Ok, map, unwrap_or, if◌then◌else◌}
 use Rattle.std.specs.Borrow.{Bor}
 use Rattle.std.specs.Fn.{FnReturnsAt, Shared}
 use Rattle.std.specs.Int.{int_min}
+use Rattle.std.specs.List.{list_any}
 use Rattle.std.specs.Option.{option_map_or}
 use Rattle.std.specs.Ordering.{int_eq}
+use Rattle.std.specs.Str.{bytes_eq}
 use Rattle.sql_base.specs.Outcome.{Gives}
 use Rattle.sql_base.specs.declared.faults.EvalFault.TheVariants as eval_fault
 use Rattle.sql_base.specs.declared.memory.NoMemory.{NoMemory}
 use Rattle.sql_eval.specs.Row.{all_alike, values_of}
+use Rattle.row_rules.specs.Accept.{clashes_on, keys_of}
 use Rattle.row_rules.specs.Causes.{row_error, value_cause}
-use Rattle.row_rules.specs.Changes.{put_all}
-use Rattle.row_rules.specs.Outcome.{Answers, first_some, map_fault}
-use Rattle.row_rules.specs.Site.{half}
-use Rattle.row_rules.specs.Words.{Cause, Change, EvalFault, Kept, Side, SqlError, Unique, Value, every}
+use Rattle.row_rules.specs.Changes.{altered, matching, passes, put_all}
+use Rattle.row_rules.specs.Outcome.{Answers, first_some, guarded, map_fault, without}
+use Rattle.row_rules.specs.Settle.{condition_error, null_key, row_completed, row_of_values_error, rows_valued}
+use Rattle.row_rules.specs.Show.{picked, row_asked}
+use Rattle.row_rules.specs.Site.{Site, half, halves_on, other_half, shape_of, shown, touched}
+use Rattle.row_rules.specs.Words.{Cause, Change, EvalFault, Expr, Halves, Items, Job, Kept, New, Remove, Shape, Side, SqlError, Table, Unique, Value, and_then, every}
+use Rattle.row_rules.specs.Words.job
 use Rattle.row_rules.specs.declared.stops.Stop.{Stop}
 
 -- The least key, where this one counts or doesn't beside the least of others.
@@ -39,3 +45,59 @@ module _ {F A : Type 0} where
 
   abbrev pub IsFirst : {B : Type 0} → Shared F (Bor A × Unit {0}) (Result (Option B) NoMemory) → F → List A → Option B → Type 0
   IsFirst {B} call f xs found = (g : A → Option B) → ((x : A) (y : Option B) → FnReturnsAt call f x (Ok y) → y ≡ g x) → found ≡ first_some g xs
+
+-- Whether a row passes a WHERE, or the fault as its cause.
+abbrev pub has_passed : Site → Option Expr → Kept → Result Bool Cause
+has_passed site condition row = map_fault (value_cause row.key) (passes (shape_of site.here) condition (shown site row.halves))
+
+-- What a DELETE does.
+abbrev pub removed : Site → Option Expr → List Kept → Result (List Change) Cause
+removed site condition rows = and_then (matching site condition rows) (λ rows. Ok (map (λ row. Remove row.key) rows))
+
+-- The row of a key with this half on the written side, and with its other half.
+abbrev pub made : Site → ℤ → ℕ → Option (List Value) → List Value → Result Kept Cause
+made site key lost before half =
+    and_then (map_fault (value_cause key) (other_half site half before)) (λ other. Ok (record { key = key; halves = halves_on site.side half other; lost = lost }))
+
+-- The halves that a write to a row begins with.
+abbrev pub begun : Site → Kept → Result Halves Cause
+begun site row = map_fault (value_cause row.key) (touched site row.halves)
+
+-- The half that the assignments of an UPDATE make.
+abbrev pub altered_half : Site → List (ℕ × Expr) → Kept → Halves → Result (List Value) Cause
+altered_half site sets row halves = map_fault (value_cause row.key) (altered (shape_of site.here) sets (unwrap_or (half site.side halves) []))
+
+-- ---- SELECT
+
+abbrev pub passes_asked : Site → Option Expr → Kept → Result Bool SqlError
+passes_asked site condition row = map_fault (λ fault. row_error (value_cause row.key fault)) (passes (shape_of site.here) condition (shown site row.halves))
+
+abbrev pub values_asked : Site → Items → Kept → Result (List Value) SqlError
+values_asked site items row = map_fault (λ fault. row_error (value_cause row.key fault)) (picked items (shape_of site.here) (shown site row.halves))
+
+abbrev pub passed_asked : Site → Items → ℕ → Kept → Result (Option (List Value)) SqlError
+passed_asked site items room row = and_then (row_asked site items room row) (λ values. Ok (Some values))
+
+-- ---- COMPLETE
+
+abbrev pub new_clash : Table → List Kept → Option Cause
+new_clash table rows = clashes_on (Some table) New rows (keys_of rows)
+
+-- ---- names, types and values
+
+abbrev pub is_among : List ℕ → List (List ℕ) → Bool
+is_among name names = list_any (bytes_eq name) names
+
+-- What an UPDATE of these assignments does.
+abbrev pub altering : Shape → List (ℕ × Expr) → Option Expr → Result Job SqlError
+altering shape sets condition = without (condition_error shape condition) (job.Alter sets condition)
+
+-- The rows of an INSERT with these values, where no key is NULL.
+abbrev pub rows_completed : Table → List ℕ → List (List Value) → Result (List (List Value)) SqlError
+rows_completed table places valued =
+    let all = map (row_completed (shape_of table) places) valued in
+    without (first_some (null_key table) all) all
+
+-- The rows of an INSERT for columns of these places.
+abbrev pub rows_placed : Table → List ℕ → List (List Expr) → Result (List (List Value)) SqlError
+rows_placed table places rows = guarded (first_some (row_of_values_error (shape_of table) places) rows) (rows_valued table places rows)
