@@ -1,5 +1,7 @@
 -- One more call of a list of calls.
-use Rattle.std.proofs.Common.{◌≡◌, List, [], ◌∷◌, ◌++◌, Result, Ok, Err, map, refl, sym, ap, append_assoc}
+use Rattle.std.proofs.lemmas.Grind.{common_steps}
+use Rattle.std.specs.List.{zip}
+use Rattle.std.proofs.Common.{◌≡◌, ◌≤◌, ℕ, List, [], ◌∷◌, ◌++◌, Result, Ok, Err, drop, length, map, refl, sym, ap, append_assoc, arith}
 use Rattle.sql_base.specs.Outcome.{and_then, every}
 use Rattle.row_rules.specs.Changes.{put_all}
 use Rattle.row_rules.specs.Outcome.{Answers}
@@ -32,3 +34,16 @@ went_on wanted next value r h n = rw h n
 pub stopped : {T U E : Type 0} (wanted : Result T E) (next : T → Result U E) (stop : Stop E) → Answers wanted (Err stop) → Answers (and_then wanted next) (Err stop)
 stopped wanted next (Because cause) h = rw h refl
 stopped wanted next NoMemory h = tt
+
+pub every_stops : {A B E : Type 0} (f : A → Result B E) (x : A) (xs : List A) (done : List B) (stop : Stop E) → Answers (f x) (Err stop)
+    → Answers (and_then (every (map f (x ∷ xs))) (λ rest. Ok (done ++ rest))) (Err stop)
+every_stops f x xs done (Because cause) h = rw h refl
+every_stops f x xs done NoMemory h = tt
+
+zip_none : {A B : Type 0} (xs : List A) → zip {K = A} {X = B} xs [] ≡ []
+zip_none [] = refl
+zip_none (x ∷ xs) = refl
+
+-- Two lists beside each other have nothing past the end of the second.
+pub zip_past : {A B : Type 0} (xs : List A) (ys : List B) (at : ℕ) → length ys ≤ at → zip (drop at xs) (drop at ys) ≡ []
+zip_past xs ys at h = let none : drop at ys ≡ [] = grind (arith, common_steps, h) in rw none (zip_none (drop at xs))

@@ -4,3 +4,4 @@ pub mod Clashing
 pub mod Making
 pub mod Passing
 pub mod Places
+pub mod Uniques

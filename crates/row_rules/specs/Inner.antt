@@ -1,24 +1,24 @@
 -- What the layer's own steps stand for. No public contract rests on these words.
-use Rattle.std.specs.Prelude.{◌≡◌, ℕ, ℤ, List, [], Bool, false, not, ◌&&◌, Option, Some, None, Result, Ok, map, unwrap_or, if◌then◌else◌}
+use Rattle.std.specs.Prelude.{◌≡◌, ℕ, ℤ, List, [], Bool, false, not, ◌&&◌, ◌||◌, Option, Some, None, Result, Ok, length, map, nat_lt, unwrap_or, if◌then◌else◌}
 use Rattle.std.specs.Borrow.{Bor}
 use Rattle.std.specs.Fn.{FnReturnsAt, Shared}
 use Rattle.std.specs.Int.{int_min}
-use Rattle.std.specs.List.{list_any}
+use Rattle.std.specs.List.{filter, list_any}
 use Rattle.std.specs.Option.{option_map_or}
 use Rattle.std.specs.Ordering.{int_eq}
 use Rattle.std.specs.Str.{bytes_eq}
 use Rattle.sql_base.specs.Outcome.{Gives}
 use Rattle.sql_base.specs.declared.faults.EvalFault.TheVariants as eval_fault
 use Rattle.sql_base.specs.declared.memory.NoMemory.{NoMemory}
-use Rattle.sql_eval.specs.Row.{all_alike, values_of}
-use Rattle.row_rules.specs.Accept.{clashes_on, keys_of}
+use Rattle.sql_eval.specs.Row.{all_alike, least, values_of}
+use Rattle.row_rules.specs.Accept.{clashes, clashes_on, is_taken, keys_of, row_weight}
 use Rattle.row_rules.specs.Causes.{row_error, value_cause}
-use Rattle.row_rules.specs.Changes.{altered, matching, passes, put_all}
+use Rattle.row_rules.specs.Changes.{after_changes, altered, keys_changed, matching, passes, put_all}
 use Rattle.row_rules.specs.Outcome.{Answers, first_some, guarded, map_fault, without}
 use Rattle.row_rules.specs.Settle.{condition_error, null_key, row_completed, row_of_values_error, rows_valued}
 use Rattle.row_rules.specs.Show.{picked, row_asked}
 use Rattle.row_rules.specs.Site.{Site, half, halves_on, other_half, shape_of, shown, touched}
-use Rattle.row_rules.specs.Words.{Cause, Change, EvalFault, Expr, Halves, Items, Job, Kept, New, Remove, Shape, Side, SqlError, Table, Unique, Value, and_then, every}
+use Rattle.row_rules.specs.Words.{Cause, Change, EvalFault, Expr, Halves, Items, Job, Kept, New, Put, Remove, Shape, Side, SqlError, Table, Unique, Value, and_then, every}
 use Rattle.row_rules.specs.Words.job
 use Rattle.row_rules.specs.declared.stops.Stop.{Stop}
 
@@ -101,3 +101,30 @@ rows_completed table places valued =
 -- The rows of an INSERT for columns of these places.
 abbrev pub rows_placed : Table → List ℕ → List (List Expr) → Result (List (List Value)) SqlError
 rows_placed table places rows = guarded (first_some (row_of_values_error (shape_of table) places) rows) (rows_valued table places rows)
+
+-- ---- all written rows together
+
+abbrev pub without_key : ℤ → List Kept → List Kept
+without_key key rows = filter (λ row. not (int_eq row.key key)) rows
+
+-- The least taken key, where that of a change is looked at beside the least of others.
+abbrev pub with_change : (ℤ → Bool) → Change → Option ℤ → Option ℤ
+with_change taken (Put row) found = with_least row.key (taken row.key) found
+with_change taken (Remove key) found = found
+
+-- The least of the keys of these rows that is taken by an older row or twice among the new ones.
+abbrev pub least_taken : List Kept → List Kept → List Kept → Option ℤ
+least_taken older new rows = least (filter (is_taken older new) (keys_of rows))
+
+abbrev pub table_has_uniques : Table → Bool
+table_has_uniques table = nat_lt 0 (length (shape_of table).uniques)
+
+abbrev pub has_uniques : Site → Bool
+has_uniques site = table_has_uniques site.here || option_map_or (λ beside. table_has_uniques beside.table) site.there false
+
+abbrev pub clashes_after : Site → List Kept → List Change → Option Cause
+clashes_after site older changes = clashes site (after_changes changes older) (keys_changed changes)
+
+abbrev pub change_weight : Change → ℕ
+change_weight (Put row) = row_weight row
+change_weight (Remove key) = 0

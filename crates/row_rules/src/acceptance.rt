@@ -304,5 +304,11 @@ pub fn clashes(
     if let Some(cause) = clashes_on(alloc, Some(site.here), site.side, rows, keys)? {
         return Ok(Some(cause));
     }
-    clashes_on(alloc, table_beside(site.there), other(site.side), rows, keys)
+    clashes_on(
+        alloc,
+        table_beside(site.there),
+        other(site.side),
+        rows,
+        keys,
+    )
 }

@@ -15,7 +15,9 @@ use crate::kinds::{Job, SqlError, Table};
 use crate::outcomes::try_first;
 use crate::settling::{named_once, value_error};
 use crate::stops::Stop;
-use sql_base::{Code, Column, Copying, EvalFault, Expr, List, Name, NoMemory, Shape, Value, try_map};
+use sql_base::{
+    Code, Column, Copying, EvalFault, Expr, List, Name, NoMemory, Shape, Value, try_map,
+};
 use sql_eval::eval;
 use sql_eval::operate::is_null;
 use std::alloc::Global;
@@ -35,11 +37,7 @@ fn no_columns(alloc: Global) -> Shape
 // ---- names and types
 
 // The places of the listed columns.
-fn places_listed(
-    alloc: Global,
-    shape: &Shape,
-    names: &[Name],
-) -> Result<List<u32>, Stop<SqlError>>
+fn places_listed(alloc: Global, shape: &Shape, names: &[Name]) -> Result<List<u32>, Stop<SqlError>>
     ensures { Answers (spec.places_listed shape.now names.now) result }
 {
     let mut places = List::new(alloc);
@@ -103,11 +101,7 @@ fn rows_error(
 
 // ---- values
 
-fn evaluated(
-    alloc: Global,
-    shape: &Shape,
-    row: &[Expr],
-) -> Result<List<Value>, EvalFault>
+fn evaluated(alloc: Global, shape: &Shape, row: &[Expr]) -> Result<List<Value>, EvalFault>
     ensures { Gives EvalFault.NoMemory (every (map (eval shape.now []) row.now)) result }
 {
     try_map(alloc, row, |expr| eval(alloc, expr, shape, &[]))
@@ -125,10 +119,7 @@ fn row_evaluated(alloc: Global, row: &List<Expr>) -> Result<List<Value>, Stop<Sq
     }
 }
 
-fn all_evaluated(
-    alloc: Global,
-    rows: &[List<Expr>],
-) -> Result<List<List<Value>>, Stop<SqlError>>
+fn all_evaluated(alloc: Global, rows: &[List<Expr>]) -> Result<List<List<Value>>, Stop<SqlError>>
     ensures { Answers (every (map spec.row_evaluated rows.now)) result }
 {
     let mut all = List::new(alloc);
@@ -146,8 +137,13 @@ fn value_for<'a>(places: &[u32], values: &'a [Value], at: usize) -> Option<&'a V
     ensures { option_copied result ≡ lookup (λ place. place == at) (zip places.now values.now) }
 {
     for (i, place) in places.iter().enumerate() {
-        if *place as usize == at {
-            return values.get(i);
+        match values.get(i) {
+            Some(value) => {
+                if *place as usize == at {
+                    return Some(value);
+                }
+            }
+            None => return None,
         }
     }
     None
@@ -191,7 +187,11 @@ fn all_completed(
 ) -> Result<List<List<Value>>, NoMemory>
     ensures { IfOk result (λ all. all ≡ map (spec.row_completed shape.now places.now) rows.now) }
 {
-    try_map(alloc, rows, |values| row_completed(alloc, shape, places, values.as_slice()))
+    try_map(
+        alloc,
+        rows,
+        |values| row_completed(alloc, shape, places, values.as_slice()),
+    )
 }
 
 fn null_key(alloc: Global, table: &Table, row: &List<Value>) -> Result<Option<SqlError>, NoMemory>

@@ -238,11 +238,7 @@ pub fn delete_job(
 
 // ---- SELECT
 
-fn first_untyped(
-    alloc: Global,
-    shape: &Shape,
-    items: &[Expr],
-) -> Result<Option<SqlError>, NoMemory>
+fn first_untyped(alloc: Global, shape: &Shape, items: &[Expr]) -> Result<Option<SqlError>, NoMemory>
     ensures { IfOk result (λ error. error ≡ first_some (spec.has_no_type shape.now) items.now) }
 {
     try_first(items, |item| has_no_type(alloc, shape, item))

@@ -135,10 +135,7 @@ fn room_after(room: usize, shown: &Option<List<Value>>) -> usize
 }
 
 // Appends what one row comes to, where it is shown.
-fn push_shown(
-    all: &mut List<List<Value>>,
-    shown: Option<List<Value>>,
-) -> Result<(), NoMemory>
+fn push_shown(all: &mut List<List<Value>>, shown: Option<List<Value>>) -> Result<(), NoMemory>
     ensures { OnOk result (all.new ≡ all.old ++ option_to_list shown) }
 {
     match shown {

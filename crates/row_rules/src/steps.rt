@@ -126,7 +126,13 @@ fn new_clash<T: TableRows>(
     }
     let all = all_rows(alloc, rows)?;
     let keys = keys_of(alloc, all.as_slice())?;
-    clashes_on(alloc, Some(table), Side::New, all.as_slice(), keys.as_slice())
+    clashes_on(
+        alloc,
+        Some(table),
+        Side::New,
+        all.as_slice(),
+        keys.as_slice(),
+    )
 }
 
 /// Why these rows can't stand in the new version alone, whose table this is: the first fault of a new half, one row after

@@ -60,11 +60,7 @@ fn remade(
 }
 
 /// A new row of these values.
-pub fn new_row(
-    alloc: Global,
-    site: SiteRef<'_>,
-    values: &List<Value>,
-) -> Result<Kept, Stop<Cause>>
+pub fn new_row(alloc: Global, site: SiteRef<'_>, values: &List<Value>) -> Result<Kept, Stop<Cause>>
     ensures { Answers (spec.new_row (sites.site_of site.entry) values.now) result }
 {
     let values = values.copy(alloc)?;
@@ -100,11 +96,7 @@ fn value_given(
     }
 }
 
-fn with_given(
-    alloc: Global,
-    given: &[(u32, Value)],
-    row: &[Value],
-) -> Result<List<Value>, NoMemory>
+fn with_given(alloc: Global, given: &[(u32, Value)], row: &[Value]) -> Result<List<Value>, NoMemory>
     ensures { IfOk result (λ all. all ≡ spec.with_given given.now row.now) }
 {
     let mut all = List::new(alloc);
