@@ -1,0 +1,4 @@
+pub mod Lasting
+pub mod Losing
+pub mod Missing
+pub mod Replying
