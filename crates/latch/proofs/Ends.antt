@@ -137,7 +137,7 @@ module _ {T B I : Type 0} (listed : T → List I) (based : T → B) (actor : I �
         shared = λ p. let t = total_set (of_place p) s.views id v both at in let q = total_set (of_place p) views1 other w ended there in let n = r.shared p in let z = times_append p v.places w.places in omega arith;
         whole = let t = total_set breadth s.views id v both at in let q = total_set breadth views1 other w ended there in let n = r.whole in omega arith;
         each_seat = λ j u e. ⊎_elim
-            (λ (x : (j ≡ other) × (ended ≡ u)). subst (λ (z : View B I). Fits actor r.ticket r.serving r.owner r.log r.base j z) x.1 record { begins = (r.log, refl, foreign_nowhere actor r.log); placed = omega arith; joined = tt; stage = tt })
+            (λ (x : (j ≡ other) × (ended ≡ u)). subst (λ (z : View B I). Fits actor r.ticket r.serving r.owner r.log r.base j z) x.1 record { begins = (r.log, refl, foreign_nowhere actor r.log); placed = omega arith; joined = tt; stage = refl })
             (λ (x : ((j ≡ id) × (both ≡ u)) ⊎ (get_elem? s.views j ≡ some u)). ⊎_elim
             (λ (y : (j ≡ id) × (both ≡ u)). subst (λ (z : ℕ × View B I). Fits actor r.ticket r.serving r.owner r.log r.base z.0 z.1) (λ i. (sym y.0 i, y.1 i)) a)
             (λ (y : get_elem? s.views j ≡ some u). r.each_seat j u y) x)

@@ -28,7 +28,7 @@ module _ {B I : Type 0} (actor : I → Option ℕ) (ticket serving owner ticket'
   restage Idle is a b k = k
   restage Waiting is a b k = let c = a is k.0 k.1 in (c.0, c.1, k.2)
   restage Turn is a b k = let c = b is k.0 k.1 k.2 in (c.0, c.1, c.2, k.3)
-  restage Ended is a b k = tt
+  restage Ended is a b k = k
 
 module _ {T B I : Type 0} (listed : T → List I) (based : T → B) (actor : I → Option ℕ) (seats : ℕ) where
   abbrev Rule : State (Option T) (View B I) → Type 0

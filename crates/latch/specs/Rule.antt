@@ -1,6 +1,6 @@
 -- The latch's rule: what is so of the words, the slot and the seats' views between any two steps.
 -- Word 0 is the ticket, the number that the next seat draws. Word 1 is the number that is served. Word 2 is the count of the history's entries. The rule's numbers have no end, and the words have them modulo 2 ^ 64.
-use Rattle.std.specs.Prelude.{◌≡◌, ℕ, zero, suc, ◌+◌, ◌%◌, ◌^◌, ◌<◌, ◌≤◌, List, length, slice_index, Option, Some}
+use Rattle.std.specs.Prelude.{◌≡◌, ℕ, zero, suc, ◌+◌, ◌%◌, ◌^◌, ◌<◌, ◌≤◌, List, [], length, slice_index, Option, Some}
 use mathlib.Core.Option.{some}
 use lib.ListN.{get_elem?}
 use Rattle.atomic_table.specs.Table.{State}
@@ -12,12 +12,12 @@ use Rattle.latch.specs.Views.{one_if_live, numbered, breadth, of_place}
 
 module _ {B I : Type 0} (actor : I → Option ℕ) where
   module _ (ticket serving owner : ℕ) (log : List I) (base : B) (j : ℕ) (v : View B I) where
-    -- A seat that hasn't ended knows the base. One that waits has a number that was drawn and isn't past. One that knows its turn has the number that is served, has the slot, and keeps the counted history
+    -- A seat that hasn't ended knows the base. One that waits has a number that was drawn and isn't past. One that knows its turn has the number that is served, has the slot, and keeps the counted history. One that has ended stands for no place
     abbrev pub InStage : Stage → Type 0
     InStage Idle = v.base ≡ Some base
     InStage Waiting = (serving ≤ v.number) × (v.number < ticket) × (v.base ≡ Some base)
     InStage Turn = (v.number ≡ serving) × (owner ≡ suc j) × (v.kept ≡ log) × (v.base ≡ Some base)
-    InStage Ended = Unit {0}
+    InStage Ended = v.places ≡ []
 
     -- what the seat j knows is so
     pub record Fits : Type 0 where

@@ -4,6 +4,7 @@
 mod complete;
 mod events;
 mod fill;
+pub mod laws;
 pub mod parts;
 mod plain;
 mod refusals;

@@ -14,7 +14,7 @@ use Rattle.mig_lens.specs.declared.columns.Cell.TheVariants.{Carry, Make, Still}
 use Rattle.mig_lens.specs.declared.columns.Lens.{Lens}
 use Rattle.mig_lens.specs.Lens.{IsWellFormed, all_carry, carries, cell_fits, cell_types, cells_fit, cells_type, is_of_type}
 use Rattle.mig_lens.specs.Plan.{carried}
-use Rattle.mig_lens.proofs.MadeHalves.{all_true, both}
+use Rattle.sql_base.specs.Laws.{all_true, both}
 
 -- ---- every column carried
 

@@ -11,6 +11,7 @@ use Rattle.sql_base.specs.declared.shapes.Schema.{Schema}
 use Rattle.sql_base.specs.declared.shapes.Shape.{Shape}
 use Rattle.sql_base.specs.Outcome.{and_then, every}
 use Rattle.sql_base.specs.Fit.{has_type}
+use Rattle.sql_base.specs.Laws.{all_true, and_then_ok, both}
 use Rattle.sql_eval.specs.Shape.{WellFormed, all_different, is_condition, max_columns}
 use Rattle.sql_eval.specs.Typing.{type_of}
 use Rattle.mig_lens.specs.declared.columns.Lens.{Lens}
@@ -31,7 +32,6 @@ use Rattle.mig_lens.specs.Lens.{cell_fits, cell_types, cells_fit, types_as}
 use Rattle.mig_lens.specs.Plan.{Step, Table, all_done, bad_check, bad_in, bad_up, begun, carried, cell_of, check_place, checks_of, column_added, column_fault, column_faults, column_of, done, earlier, fate_with, first, first_bad, has_column, in_place, is_first, is_taken, kept, lens_in, lens_of, plan_of, plan_with, shape_numbered, shape_with, table_meant, table_numbered, table_with, when, with_cell, without_fault}
 use Rattle.mig_lens.proofs.WiderShapes.{Wider, first_shape, grown_shape, whole_shape}
 use Rattle.mig_lens.proofs.Growing.{Hangs, first_lens, grown_lens, is_fresh}
-use Rattle.mig_lens.proofs.MadeHalves.{all_true, and_then_ok, both}
 
 -- ---- tables with different numbers
 

@@ -15,7 +15,7 @@ use Rattle.sql_base.specs.Outcome.{and_then, every}
 use Rattle.sql_eval.specs.Typing as typed
 use Rattle.sql_eval.specs.Typing.{Typed, TypedArm, binary_type, call_type, case_type, casts, column_type, form, type_of, type_step, types_of_arm}
 use Rattle.sql_base.specs.declared.faults.TypeFault.TheVariants.{Mismatch}
-use Rattle.mig_lens.proofs.MadeHalves.{and_then_ok}
+use Rattle.sql_base.specs.Laws.{and_then_ok}
 
 -- Where the one has a value the other has the same one.
 abbrev Follows : {T E : Type 0} → Result T E → Result T E → Type 0

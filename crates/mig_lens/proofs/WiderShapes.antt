@@ -14,7 +14,7 @@ use Rattle.sql_eval.specs.Shape.{WellFormed, all_different, has_places, is_condi
 use Rattle.sql_eval.specs.Typing.{Typed, type_of}
 use Rattle.mig_lens.specs.declared.migrations.ColumnDef.{ColumnDef}
 use Rattle.mig_lens.specs.Plan.{checks_of, column_of, shape_with, unique_name, uniques_of}
-use Rattle.mig_lens.proofs.MadeHalves.{all_true, both}
+use Rattle.sql_base.specs.Laws.{all_true, both}
 use Rattle.mig_lens.proofs.Widening.{type_kept}
 
 -- ---- names

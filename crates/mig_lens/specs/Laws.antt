@@ -1,5 +1,5 @@
 -- What holds of lenses and plans, whatever the shapes, rows and migrations are.
-use Rattle.std.specs.Prelude.{◌≡◌, ℕ, Bool, true, false, not, ◌&&◌, ◌==◌, List, [], ◌∷◌, map, slice_index_or, is_some, Option, Some, Ok}
+use Rattle.std.specs.Prelude.{◌≡◌, ◌≢◌, ℕ, Bool, true, false, not, ◌&&◌, ◌==◌, List, [], ◌∷◌, map, slice_index_or, is_some, Option, Some, Ok, Err}
 use Rattle.std.specs.List.{list_all, list_any}
 use Rattle.std.specs.Option.{option_map_or}
 use Rattle.sql_base.specs.declared.shapes.Schema.{Schema}
@@ -9,6 +9,7 @@ use Rattle.sql_base.specs.declared.values.Value.TheVariants.{Null}
 use Rattle.sql_base.specs.Fit.{row_fits}
 use Rattle.sql_eval.specs.Shape.{WellFormed, all_different}
 use Rattle.mig_lens.specs.declared.columns.Lens.{Lens}
+use Rattle.mig_lens.specs.declared.faults.PlanFault.TheVariants.{NoMemory}
 use Rattle.mig_lens.specs.declared.migrations.Migration.{Migration}
 use Rattle.mig_lens.specs.declared.migrations.Op.{Op}
 use Rattle.mig_lens.specs.declared.migrations.Op.TheVariants.{AddColumn}
@@ -131,3 +132,7 @@ HasLenses old plan = (number : ℕ) → is_some (lens_of plan number) ≡ is_som
 -- The new version is a schema as the old one is.
 abbrev pub PlansKeepSchemas : Type 0
 PlansKeepSchemas = (old : Schema) (next_table : ℕ) (m : Migration) (plan : Plan) → IsSchema old → plan_of old next_table m ≡ Ok plan → IsSchema plan.schema
+
+-- Planning isn't refused for want of memory by its definition.
+abbrev pub PlanningWantsNothing : Type 0
+PlanningWantsNothing = (old : Schema) (next_table : ℕ) (m : Migration) → plan_of old next_table m ≢ Err NoMemory

@@ -1,6 +1,6 @@
 //! The laws of lenses and plans. Each is the contract of a function that does nothing.
 
-ghost use Rattle.mig_lens.specs.Laws.{ForwardFits, BackwardFits, BackwardOfForward, ForwardCarries, BackwardCarries, UnmadeNeverFaults, PlannedLensesJoin, AddedColumnsLoseNothing, PlansKeepSchemas, OfAddedColumns, KeepsTables, HasFates, KeepsAll, HasLenses};
+ghost use Rattle.mig_lens.specs.Laws.{PlanningWantsNothing, ForwardFits, BackwardFits, BackwardOfForward, ForwardCarries, BackwardCarries, UnmadeNeverFaults, PlannedLensesJoin, AddedColumnsLoseNothing, PlansKeepSchemas, OfAddedColumns, KeepsTables, HasFates, KeepsAll, HasLenses};
 
 /// A half that is made from one that fits its shape fits the other shape, and has the same key.
 ///
@@ -9,7 +9,9 @@ ghost use Rattle.mig_lens.specs.Laws.{ForwardFits, BackwardFits, BackwardOfForwa
 pub fn made_halves_fit()
     ensures forward { ForwardFits }
     ensures backward { BackwardFits }
-{}
+{
+    sql_eval::laws::typed_values_are_of_their_types();
+}
 
 /// Where every old column is carried, as after `add_column`, an old half comes back from the new half that was made
 /// from it.
@@ -50,4 +52,12 @@ pub fn added_columns_keep_tables()
     ensures fates { OfAddedColumns HasFates }
     ensures kept { OfAddedColumns KeepsAll }
     ensures lenses { OfAddedColumns HasLenses }
+{}
+
+/// What a migration makes of a schema is a plan or a fault of the migration, and never want of memory: only a call may
+/// answer that.
+///
+/// It holds for every schema, number and migration.
+pub fn planning_wants_nothing()
+    ensures { PlanningWantsNothing }
 {}

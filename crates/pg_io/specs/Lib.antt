@@ -4,3 +4,4 @@ pub mod Memory
 pub mod Disk
 pub mod Replay
 pub mod Fuse
+pub mod Laws

@@ -2,7 +2,7 @@
 use Rattle.std.proofs.Common.{◌≡◌, ◌⊎◌, ℕ, List, ◌++◌, Option, None, Some, Err, refl, ap, subst, ◌∙◌, append-nil, inl, inr, ⊎_elim, arith}
 use Rattle.sql_base.specs.declared.faults.ScriptFault.TheVariants.{Line as BadLine}
 use Rattle.script_text.specs.Script.{script_of}
-use Rattle.pg_io.proofs.Known.{beyond_whole, within_passes}
+use Rattle.pg_io.specs.Laws.{beyond_whole, within_passes}
 use Rattle.pgroll_top.specs.declared.ending.End.{End}
 use Rattle.pgroll_top.specs.declared.ending.End.TheVariants.{Done, Refused, Usage, ReadFault, InputTooLong, BadScript, WantOfMemory}
 use Rattle.machine.specs.declared.events.Entry.{Entry}

@@ -4,7 +4,7 @@ use Rattle.std.specs.Io.KnownBytes.{Appends}
 use Rattle.pg_io.specs.Outside.{Known, Faulted, PassesLimit, Quiet, ReadsFront}
 use Rattle.pg_io.specs.declared.whole.InputFault.{InputFault}
 use Rattle.pg_io.specs.declared.whole.InputFault.TheVariants.{Failed as InputFailed, TooLong, NoMemory as OutOfMemory}
-use Rattle.pg_io.proofs.Known.{appends_more, rose_since}
+use Rattle.pg_io.specs.Laws.{appends_more, rose_since}
 use Rattle.sql_base.specs.declared.faults.ScriptFault.{ScriptFault}
 use Rattle.sql_base.specs.declared.faults.ScriptFault.TheVariants.{Line as BadLine, NoMemory as ScriptMemory}
 use Rattle.script_text.specs.declared.lines.Line.{Line}

@@ -2,7 +2,7 @@
 use Rattle.std.proofs.Common.{◌≡◌, ◌⊎◌, ℕ, Bool, true, false, List, [], ◌∷◌, ◌++◌, Option, Result, Ok, Err, refl, sym, append-nil, inl, inr}
 use Rattle.std.specs.Io.KnownBytes.{Appends}
 use Rattle.pg_io.specs.Outside.{Known}
-use Rattle.pg_io.proofs.Known.{appends_none}
+use Rattle.pg_io.specs.Laws.{appends_none}
 use Rattle.machine.specs.declared.events.Entry.{Entry}
 use Rattle.machine.specs.declared.events.Event.{Event}
 use Rattle.machine.specs.declared.events.Reply.{Reply}

@@ -3,7 +3,7 @@ use Rattle.std.proofs.Common.{◌≡◌, ℕ, List, [], ◌∷◌, ◌++◌, Opt
 use Rattle.std.specs.Io.KnownBytes.{Appends}
 use Rattle.std.proofs.lemmas.Grind.{flat_map-append}
 use Rattle.pg_io.specs.Outside.{Known, Cut}
-use Rattle.pg_io.proofs.Known.{appends_more, appends_kept, appends_none, rose_since}
+use Rattle.pg_io.specs.Laws.{appends_more, appends_kept, appends_none, rose_since}
 use Rattle.machine.specs.declared.events.Entry.{Entry}
 use Rattle.pgroll_top.specs.declared.ending.Stop.{Stop}
 use Rattle.pgroll_top.specs.declared.ending.Stop.TheVariants.{WriteFault, NoMemory}
@@ -13,7 +13,7 @@ use Rattle.pgroll_top.specs.Top.{end_line}
 use Rattle.pgroll_top.specs.declared.ending.End.TheVariants.{BadScript}
 use Rattle.mig_lens.specs.declared.faults.Refusal.TheVariants as refusal
 use Rattle.machine.specs.declared.events.Reply.TheVariants.{Refused}
-use Rattle.roll_core.specs.Lines.{reply_text}
+use Rattle.report.specs.Lines.{reply_text}
 use Rattle.std.proofs.lemmas.Fmt.{decimal_digit}
 
 pub lines_append : (h e : List Entry) → lines_of h ++ lines_of e ≡ lines_of (h ++ e)

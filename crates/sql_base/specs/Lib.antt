@@ -1,4 +1,5 @@
 pub mod Fit
+pub mod Laws
 pub mod Mapped
 pub mod Outcome
 pub mod Text

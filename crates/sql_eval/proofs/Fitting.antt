@@ -1,5 +1,5 @@
 -- In a row that fits, the value of a column has the column's type.
-use Rattle.std.proofs.Common.{◌≡◌, suc, ◌≢◌, ap, length, ℕ, ◌+◌, List, [], ◌∷◌, Bool, true, false, ◌&&◌, Option, Some, None, if◌then◌else◌, refl, arith}
+use Rattle.std.proofs.Common.{◌≡◌, ℕ, ◌+◌, List, [], ◌∷◌, Bool, true, false, Option, Some, None, if◌then◌else◌, refl, arith}
 use Rattle.std.specs.Prelude.{find, option_map}
 use Rattle.std.specs.List.{position}
 use Rattle.std.specs.Str.{bytes_eq}
@@ -9,6 +9,7 @@ use Rattle.sql_base.specs.declared.shapes.Column.{Column}
 use Rattle.sql_eval.specs.Eval.{value_at}
 use Rattle.sql_eval.specs.Typing.{column_type}
 use Rattle.sql_base.specs.Fit.{has_type, fits_columns}
+use Rattle.sql_base.specs.Laws.{both}
 use Rattle.sql_eval.specs.Laws.{Suits}
 
 position-cons : (p : Column → Bool) (c : Column) (cs : List Column) → position p (c ∷ cs) ≡ (if p c then Some 0 else option_map (λ i. i + 1) (position p cs))
@@ -17,11 +18,6 @@ position-cons p c cs = grind (arith, common_steps)
 value-next : (v : Value) (vs : List Value) (o : Option ℕ) → value_at (v ∷ vs) (option_map (λ i. i + 1) o) ≡ value_at vs o
 value-next v vs None = refl
 value-next v vs (Some i) = grind (arith, common_steps)
-
-both : (a b : Bool) → (a && b) ≡ true → (a ≡ true) × (b ≡ true)
-both true true h = (refl, refl)
-both true false h = cc
-both false b h = cc
 
 pub fits_suits : (name : List ℕ) (cs : List Column) (vs : List Value) → fits_columns cs vs ≡ true → Suits (column_type name (find (λ c. bytes_eq c.name name) cs)) (value_at vs (position (λ c. bytes_eq c.name name) cs))
 fits_suits name [] [] h = tt

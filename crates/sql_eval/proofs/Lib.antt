@@ -8,3 +8,5 @@ pub mod Operators
 pub mod Reading
 pub mod Soundness
 pub mod Trimming
+pub mod TypesWantNothing
+pub mod ValuesWantNothing

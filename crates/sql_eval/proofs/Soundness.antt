@@ -1,5 +1,5 @@
 -- What a typed expression comes to is of its type: by induction over the tree.
-use Rattle.std.proofs.Common.{◌≡◌, List, [], ◌∷◌, true, Option, None, refl, subst, map}
+use Rattle.std.proofs.Common.{◌≡◌, ℕ, List, [], ◌∷◌, true, Option, None, refl, subst, map}
 use Rattle.sql_base.specs.declared.values.Value.{Value}
 use Rattle.sql_base.specs.declared.values.Value.TheVariants.{Null, Int, Text, Bool as Truth}
 use Rattle.sql_base.specs.declared.values.Ty.{Ty}
@@ -12,15 +12,20 @@ use Rattle.sql_base.specs.declared.exprs.Func.TheVariants as func
 use Rattle.sql_base.specs.declared.shapes.Shape.{Shape}
 use Rattle.sql_base.specs.Outcome.{and_then, every}
 use Rattle.sql_eval.specs.Value.{Outcome}
-use Rattle.sql_eval.specs.Typing.{Typed, TypedArm, one_type, case_type, type_of, types_of_arm, type_step, type_of_value}
+use Rattle.sql_eval.specs.Typing.{column_named, column_type, Typed, TypedArm, one_type, case_type, type_of, types_of_arm, type_step, type_of_value}
 use Rattle.sql_eval.specs.Typing as typed
 use Rattle.sql_eval.specs.Eval as valued
-use Rattle.sql_eval.specs.Eval.{case, coalesce, eval, eval_arm, eval_step}
+use Rattle.sql_eval.specs.Eval.{case, coalesce, column_at, eval, eval_arm, eval_step, value_at}
 use Rattle.sql_base.specs.Fit.{has_type}
-use Rattle.sql_eval.specs.Laws.{Sound, Holds, IsSound}
+use Rattle.sql_eval.specs.Laws.{Sound, Suits, TypedIsSound}
+use Rattle.sql_eval.proofs.Fitting.{fits_suits}
 use Rattle.sql_eval.proofs.Operators.{sound_not, sound_neg, sound_is_null, sound_binary}
 use Rattle.sql_eval.proofs.Branches.{branch_of, coalesce_step, case_step, sound_arm, sound_else}
 use Rattle.sql_eval.proofs.Calls.{AllAgree, every_step, sound_all, sound_cast_of}
+
+-- Each column's value has the column's type: what is needed of a row that fits.
+record Holds (shape : Shape) (row : List Value) : Type 0 where
+  columns : (name : List ℕ) → Suits (column_type name (column_named shape name)) (value_at row (column_at shape name))
 
 sound_value : (v : Value) → has_type (type_of_value v) v ≡ true
 sound_value Null = refl
@@ -80,6 +85,9 @@ module _ (shape : Shape) (row : List Value) (holds : Holds shape row) where
       let values = fold-roll-Arm Outcome (Outcome × Outcome) (eval_step shape row) valued.arm_step (map-Arm ((e : Expr) × P e) ((a : Arm) × Q a) Expr Arm (λ e. e.0) (λ a. a.0) y) in
       rw (types, values) (sound_arm (type_of shape y.when.0) (type_of shape y.gives.0) (eval shape row y.gives.0) y.gives.1)
 
-pub sound : IsSound
+sound : (shape : Shape) (row : List Value) (e : Expr) → Holds shape row → Sound (type_of shape e) (eval shape row e)
 sound shape row e holds =
     ind-Expr (P shape row holds) (Q shape row holds) (λ x y is. subst (λ z. P shape row holds (roll-Expr z)) is (level shape row holds y)) (λ x y is. subst (λ z. Q shape row holds (roll-Arm z)) is (arm_level shape row holds y)) e
+
+pub typed_is_sound : TypedIsSound
+typed_is_sound shape row e h = sound shape row e (record { columns = λ name. fits_suits name shape.columns row h })

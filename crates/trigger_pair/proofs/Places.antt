@@ -14,7 +14,7 @@ use Rattle.trigger_pair.specs.Laws.{Holds, IsPair}
 use Rattle.trigger_pair.specs.Stored.{is_true, last_value, mark_value, new_view, places, shadow_values, stored_row}
 
 -- Each new column that carries an old one has its value, and the old half has that place.
-pub record Agree (cells : List Cell) (old new : List Value) : Type 0 where
+pub record Alike (cells : List Cell) (old new : List Value) : Type 0 where
   pub long : length new ≡ length cells
   pub within : (i at : ℕ) → slice_get cells i ≡ Some (Carry at) → at < length old
   pub same : (i at : ℕ) → slice_get cells i ≡ Some (Carry at) → slice_index_or old at Null ≡ slice_index_or new i Null
@@ -45,7 +45,7 @@ selected f next (Still x ∷ cells) (v ∷ vs) tail len carried own =
     rw (step.0, there)
 
 -- the same of a row that begins with the old half
-pub new_of_row : (old new tail : List Value) (cells : List Cell) → Agree cells old new → map (λ at. slice_index_or (old ++ shadow_values cells new ++ tail) at Null) (places (length old) cells) ≡ new
+pub new_of_row : (old new tail : List Value) (cells : List Cell) → Alike cells old new → map (λ at. slice_index_or (old ++ shadow_values cells new ++ tail) at Null) (places (length old) cells) ≡ new
 new_of_row old new tail cells agree =
     let row = old ++ shadow_values cells new ++ tail in
     let joined : row ≡ old ++ (shadow_values cells new ++ tail) = append_assoc old (shadow_values cells new) tail in
@@ -55,7 +55,7 @@ new_of_row old new tail cells agree =
     ap (λ values. slice_index_or values (length old + k) Null) joined ∙ get_or-append-add old (shadow_values cells new ++ tail) k Null in
     selected (λ at. slice_index_or row at Null) (length old) cells new tail agree.long carried own
 
-pub new_of_stored : (pair : Pair) (old new : List Value) (marked : Bool) → length old ≡ length pair.old.columns → Agree pair.lens.new_cols old new → new_view pair (stored_row pair old new marked) ≡ new
+pub new_of_stored : (pair : Pair) (old new : List Value) (marked : Bool) → length old ≡ length pair.old.columns → Alike pair.lens.new_cols old new → new_view pair (stored_row pair old new marked) ≡ new
 new_of_stored pair old new marked long agree =
     let row = stored_row pair old new marked in
     ap (λ n. map (λ at. slice_index_or row at Null) (places n pair.lens.new_cols)) (sym long) ∙ new_of_row old new (mark_value pair.layout.mark marked) pair.lens.new_cols agree
@@ -116,10 +116,15 @@ stored_long pair old new marked p a b c =
 
 -- ---- all of it
 
-pub holds : (pair : Pair) (old new : List Value) (marked shown : Bool) → IsPair pair → length old ≡ length pair.old.columns → length pair.lens.new_cols ≡ length pair.new.columns → Agree pair.lens.new_cols old new → (pair.layout.mark && marked) ≡ shown → Holds pair old new shown (stored_row pair old new marked)
+mark_is_held : (values : List Value) (mark marked : Bool) → mark ≡ true → last_value (values ++ mark_value mark marked) ≡ Some (Truth (mark && marked))
+mark_is_held values true marked h = last_appended values (Truth marked)
+mark_is_held values false marked h = cc
+
+pub holds : (pair : Pair) (old new : List Value) (marked shown : Bool) → IsPair pair → length old ≡ length pair.old.columns → length pair.lens.new_cols ≡ length pair.new.columns → Alike pair.lens.new_cols old new → (pair.layout.mark && marked) ≡ shown → Holds pair old new shown (stored_row pair old new marked)
 holds pair old new marked shown p a b agree m = record {
   old_shown = old_of_row old (shadow_values pair.lens.new_cols new) (mark_value pair.layout.mark marked) (length pair.old.columns) a;
   new_shown = new_of_stored pair old new marked a agree;
   mark = mark_of_row (old ++ shadow_values pair.lens.new_cols new) pair.layout.mark marked ∙ m;
+  mark_held = λ has. mark_is_held (old ++ shadow_values pair.lens.new_cols new) pair.layout.mark marked has ∙ ap (λ b. Some (Truth b)) m;
   long = stored_long pair old new marked p a b agree.long;
 }

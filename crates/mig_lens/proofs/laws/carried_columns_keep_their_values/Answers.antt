@@ -1,4 +1,4 @@
-use Rattle.mig_lens.proofs.MadeHalves.{backward_carries, forward_carries}
+use Rattle.mig_lens.proofs.HalvesFit.{backward_carries, forward_carries}
 use Rattle.mig_lens.proofs.laws.carried_columns_keep_their_values.Goals as goal
 
 pub returns-clause-forward : goal.returns-clause-forward

@@ -1,4 +1,4 @@
-use Rattle.mig_lens.proofs.MadeHalves.{unmade_never_faults}
+use Rattle.mig_lens.proofs.HalvesFit.{unmade_never_faults}
 use Rattle.mig_lens.proofs.laws.constants_never_fault.Goals as goal
 
 pub returns : goal.returns

@@ -1,4 +1,4 @@
-use Rattle.mig_lens.proofs.MadeHalves.{backward_of_forward}
+use Rattle.mig_lens.proofs.HalvesFit.{backward_of_forward}
 use Rattle.mig_lens.proofs.laws.nothing_is_lost_forward.Goals as goal
 
 pub returns : goal.returns

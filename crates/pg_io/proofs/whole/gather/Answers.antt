@@ -1,6 +1,6 @@
 use Rattle.std.proofs.Common.{◌∙◌, inr, ◌++◌, take, arith, length-append}
 use Rattle.std.proofs.lemmas.Result.{err_from_is_err_and}
-use Rattle.pg_io.proofs.Known.{consumes_more}
+use Rattle.pg_io.specs.Laws.{consumes_more}
 use Rattle.pg_io.proofs.whole.gather.Goals as goal
 
 pub returns-then-count-limit-clause-too_long : goal.returns-then-count-limit-clause-too_long

@@ -1,7 +1,8 @@
 use Rattle.std.proofs.Common.{◌∙◌, ◌+◌, ◌≤◌, length, length-take, length-drop, arith, sym, take, drop}
 use Rattle.std.proofs.lemmas.List.{take-append-drop}
 use Rattle.std.proofs.lemmas.Result.{err_from_is_err_and}
-use Rattle.pg_io.proofs.Known.{appends_more, appends_kept, take_step, rest_missing, rose_since}
+use Rattle.pg_io.specs.Laws.{appends_kept, appends_more, rose_since}
+use Rattle.pg_io.proofs.Known.{take_step, rest_missing}
 use Rattle.pg_io.proofs.whole.write_whole.Goals as goal
 
 pub returns-in_err-written-clause-cut : goal.returns-in_err-written-clause-cut

@@ -1,6 +1,6 @@
 use Rattle.std.proofs.Common.{◌++◌, [], ap, codes, decimal, refl, ◌∙◌}
 use Rattle.std.proofs.lemmas.Result.{err_from_is_err_and}
-use Rattle.pg_io.proofs.Known.{appends_more, appends_none}
+use Rattle.pg_io.specs.Laws.{appends_more, appends_none}
 use Rattle.pgroll_top.proofs.Telling.{bad_line, cut_in}
 use Rattle.pgroll_top.proofs.ending.write_bad_script.Goals as goal
 
