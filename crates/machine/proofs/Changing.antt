@@ -55,9 +55,10 @@ module _ (below : Below) (s : State) (stands : IsState s) (found : Found) (f : T
 
   rows_off_site : (rows : List Kept) → Each (SiteRow (LostIn s) (site_of s found)) rows → RowsStand s (number_of found.table) rows × (may_lose s.kind s.left ≡ false → NoneLost rows)
   rows_off_site rows h =
-      let site = site_of s found in
-      (each_row s (number_of found.table) rows (each_so (SiteRow (LostIn s) site) (RowStands s (number_of found.table)) (row_off_site s stands (LostIn s) found f) rows h),
-      none_lost_each s rows (each_so (SiteRow (LostIn s) site) (λ row. LostIn s row.lost) (λ row r. r.lost) rows h))
+      let site = site_of s found in (
+        each_row s (number_of found.table) rows (each_so (SiteRow (LostIn s) site) (RowStands s (number_of found.table)) (row_off_site s stands (LostIn s) found f) rows h),
+        none_lost_each s rows (each_so (SiteRow (LostIn s) site) (λ row. LostIn s row.lost) (λ row r. r.lost) rows h),
+      )
 
   pub changed_stands : (what : Job) (some : List Kept) (all : List Change) → JobStands (shape_of found.table) what → Each (SiteRow (LostIn s) (site_of s found)) some → changes (site_of s found) what some ≡ Ok all
       → row_count (with_rows s (number_of found.table) (after_changes all (rows_of s (number_of found.table)))) ≤ max_rows → IsState (with_rows s (number_of found.table) (after_changes all (rows_of s (number_of found.table))))

@@ -46,9 +46,10 @@ kept_row : (s : State) (number : ℕ) (row : Kept) → RowStands s number row �
 kept_row s number row r = let there = row_carries s (emptied s) refl refl number row r in record { old = there.old; new = there.new }
 
 kept_table : (s : State) (u : Rows) → Carries s (emptied s) table_without_loss u
-kept_table s u ascend stand =
-    (ascends_mapped without_loss (λ row. refl) u.1 ascend,
-    rows_mapped s (emptied s) u.0 without_loss u.1 (each (λ row. RowStands s u.0 row → RowStands (emptied s) u.0 (without_loss row)) (kept_row s u.0) u.1) stand)
+kept_table s u ascend stand = (
+  ascends_mapped without_loss (λ row. refl) u.1 ascend,
+  rows_mapped s (emptied s) u.0 without_loss u.1 (each (λ row. RowStands s u.0 row → RowStands (emptied s) u.0 (without_loss row)) (kept_row s u.0) u.1) stand,
+)
 
 nothing_lost : (rows : List Kept) → NoneLost (map without_loss rows)
 nothing_lost rows = map_each without_loss (λ row. row.lost ≡ 0) rows (each (λ row. 0 ≡ 0) (λ row. refl) rows)

@@ -77,6 +77,7 @@ put_ascends row (first ∷ rows) h = by_order (put_ascends row rows (ascends_res
 pub put_rows_ascend : (new rows : List Kept) → Ascends rows → Ascends (put_rows new rows)
 put_rows_ascend [] rows h = h
 put_rows_ascend (row ∷ new) rows h = put_rows_ascend new (put_row row rows) (put_ascends row rows h)
+
 pub put_each : (P : Kept → Type 0) (row : Kept) (rows : List Kept) → P row → Each P rows → Each P (put_row row rows)
 put_each P row [] r h = (r, tt)
 put_each P row (first ∷ rows) r h = by_order (put_each P row rows r h.1) (int_cmp row.key first.key)
@@ -182,6 +183,7 @@ put_known_keys row (first ∷ rows) a h = by_order (put_known_keys row rows (asc
 pub has_key_by_keys : (key : ℤ) (rows : List Kept) → has_key key rows ≡ list_any (int_eq key) (keys_of rows)
 has_key_by_keys key [] = refl
 has_key_by_keys key (row ∷ rows) = ap (λ b. int_eq key row.key || b) (has_key_by_keys key rows)
+
 known_still : (new rows others : List Kept) → keys_of others ≡ keys_of rows → list_all (λ row. has_key row.key rows) new ≡ true → list_all (λ row. has_key row.key others) new ≡ true
 known_still [] rows others e h = refl
 known_still (row ∷ new) rows others e h =
