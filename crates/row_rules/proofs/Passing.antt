@@ -1,5 +1,5 @@
 -- One more row that a WHERE is looked at for.
-use Rattle.std.proofs.Common.{◌≡◌, List, [], ◌∷◌, ◌++◌, Bool, true, false, Some, None, Option, Result, Ok, Err, map, refl, sym, ap, append_assoc}
+use Rattle.std.proofs.Common.{◌≡◌, List, [], ◌∷◌, ◌++◌, true, false, Some, None, Option, Result, Ok, Err, map, refl, sym, ap, append_assoc}
 use Rattle.std.specs.List.{filter_map}
 use Rattle.sql_base.specs.Outcome.{and_then, every}
 use Rattle.row_rules.specs.Changes.{matching, row_passed}

@@ -1,6 +1,5 @@
 -- Without unique constraints no rows clash.
 use Rattle.std.proofs.Common.{◌≡◌, ℤ, List, [], ◌∷◌, Bool, true, false, ◌||◌, Some, None, Option, refl, arith}
-use Rattle.sql_base.specs.declared.shapes.Shape.{Shape}
 use Rattle.sql_base.specs.declared.shapes.Unique.{Unique}
 use Rattle.row_rules.specs.Accept.{clashes, clashes_on, present, unique_cause}
 use Rattle.row_rules.specs.Inner.{has_uniques, table_has_uniques}

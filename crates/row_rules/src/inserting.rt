@@ -1,11 +1,9 @@
 //! The columns and the values of an INSERT.
-ghost use Rattle.std.specs.Prelude.{◌≡◌, ◌==◌, [], IfOk, map};
+ghost use Rattle.std.specs.Prelude.{◌≡◌, ◌==◌, IfOk, map};
 ghost use Rattle.std.specs.List.{enumerate_from, zip};
 ghost use Rattle.std.specs.Map.{lookup};
 ghost use Rattle.std.specs.Option.{option_copied};
-ghost use Rattle.sql_base.specs.Outcome.{Gives, every};
-ghost use Rattle.sql_base.specs.declared.faults.EvalFault.TheVariants as EvalFault;
-ghost use Rattle.sql_eval.specs.Eval.{eval};
+ghost use Rattle.sql_base.specs.Outcome.{every};
 ghost use Rattle.row_rules.specs.Inner as inner;
 ghost use Rattle.row_rules.specs.Outcome.{Answers, first_some};
 ghost use Rattle.row_rules.specs.Settle as spec;
@@ -14,11 +12,11 @@ use crate::causes::{bare_error, no_value, null_key_error};
 use crate::kinds::{Job, SqlError, Table};
 use crate::outcomes::try_first;
 use crate::settling::{named_once, value_error};
+use crate::showing::evaluated;
 use crate::stops::Stop;
 use sql_base::{
     Code, Column, Copying, EvalFault, Expr, List, Name, NoMemory, Shape, Value, try_map,
 };
-use sql_eval::eval;
 use sql_eval::operate::is_null;
 use std::alloc::Global;
 
@@ -101,18 +99,12 @@ fn rows_error(
 
 // ---- values
 
-fn evaluated(alloc: Global, shape: &Shape, row: &[Expr]) -> Result<List<Value>, EvalFault>
-    ensures { Gives EvalFault.NoMemory (every (map (eval shape.now []) row.now)) result }
-{
-    try_map(alloc, row, |expr| eval(alloc, expr, shape, &[]))
-}
-
 // The values of a row of VALUES.
 fn row_evaluated(alloc: Global, row: &List<Expr>) -> Result<List<Value>, Stop<SqlError>>
     ensures { Answers (spec.row_evaluated row.now) result }
 {
     let over = no_columns(alloc);
-    match evaluated(alloc, &over, row.as_slice()) {
+    match evaluated(alloc, &over, row.as_slice(), &[]) {
         Ok(values) => Ok(values),
         Err(EvalFault::NoMemory) => Err(Stop::NoMemory),
         Err(fault) => Err(Stop::Because(no_value(alloc, fault)?)),

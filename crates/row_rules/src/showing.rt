@@ -24,7 +24,8 @@ use std::alloc::Global;
 /// The most rows of one SELECT.
 pub const MAX_REPLY: usize = 10_000;
 
-fn evaluated(
+/// The values of these expressions over a row, from left to right.
+pub fn evaluated(
     alloc: Global,
     shape: &Shape,
     items: &[Expr],

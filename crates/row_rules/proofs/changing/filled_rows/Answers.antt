@@ -1,5 +1,4 @@
-use Rattle.std.proofs.Common.{◌≡◌, ◌+◌, ◌<◌, ◌∷◌, ◌∙◌, Ok, Err, drop, length, map, sym, subst, arith}
-use Rattle.std.proofs.lemmas.Grind.{common_steps}
+use Rattle.std.proofs.Common.{◌≡◌, ◌+◌, ◌<◌, ◌∙◌, Err, drop, length, map, sym, subst, arith}
 use Rattle.sql_base.specs.Outcome.{every}
 use Rattle.row_rules.proofs.Calls.{after, goes_on, stops_at}
 use Rattle.row_rules.proofs.Places.{here}

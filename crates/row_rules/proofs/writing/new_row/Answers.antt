@@ -1,6 +1,6 @@
-use Rattle.std.proofs.Common.{◌≡◌, rules}
+use Rattle.std.proofs.Common.{rules}
 use Rattle.row_rules.proofs.Making.{new_from}
-use Rattle.row_rules.specs.Site.{key_of, shape_of, site_of}
+use Rattle.row_rules.specs.Site.{site_of}
 use Rattle.row_rules.proofs.writing.new_row.Goals as goal
 
 pub returns : goal.returns
