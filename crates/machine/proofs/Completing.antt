@@ -1,6 +1,6 @@
 -- Completing leads from a state that stands to one.
-use Rattle.std.proofs.Common.{◌≡◌, ◌∙◌, inl, inr, ℕ, ◌≤◌, ℤ, List, [], ◌∷◌, Bool, true, false, cond, Option, Some, None, Ok, Err, length, map, ap, refl, sym, subst}
-use Rattle.std.specs.Prelude.{◌==◌, is_none, is_some, nat_eq, sum_by, if◌then◌else◌}
+use Rattle.std.proofs.Common.{◌≡◌, ◌∙◌, inl, inr, ℕ, ◌≤◌, ℤ, List, [], ◌∷◌, true, false, cond, Option, Some, None, length, map, ap, refl, sym, subst}
+use Rattle.std.specs.Prelude.{◌==◌, is_none, is_some, nat_eq, sum_by}
 use Rattle.std.specs.List.{AllByRecursion as Each, filter, list_any}
 use Rattle.std.specs.Option.{option_and_then, option_map, option_map_or}
 use Rattle.std.proofs.lemmas.List.{length-map}
@@ -9,14 +9,11 @@ use Rattle.sql_base.specs.declared.values.Value.{Value}
 use Rattle.sql_eval.specs.Row.{least}
 use Rattle.mig_lens.specs.declared.columns.Lens.{Lens}
 use Rattle.mig_lens.specs.declared.columns.Side.TheVariants.{New}
-use Rattle.mig_lens.specs.declared.faults.Kind.{Kind}
 use Rattle.mig_lens.specs.declared.faults.Kind.TheVariants as kind
 use Rattle.mig_lens.specs.declared.faults.Refusal.{Refusal}
-use Rattle.mig_lens.specs.declared.faults.Refusal.TheVariants.{NotFilled, Unfinished}
+use Rattle.mig_lens.specs.declared.faults.Refusal.TheVariants.{NotFilled}
 use Rattle.mig_lens.specs.declared.plans.Fate.{Fate}
 use Rattle.mig_lens.specs.Plan.{Table, table_numbered}
-use Rattle.machine.specs.declared.events.Reply.{Reply}
-use Rattle.machine.specs.declared.events.Reply.TheVariants.{Complete}
 use Rattle.row_rules.specs.declared.kinds.Kept.{Kept}
 use Rattle.machine.specs.declared.states.Mode.{Mode}
 use Rattle.machine.specs.declared.states.Mode.TheVariants.{Calm, Both}
@@ -24,7 +21,6 @@ use Rattle.machine.specs.declared.states.State.{State}
 use Rattle.machine.specs.State.{Shared, lens_among, row_count, rows_of, shared, table_on}
 use Rattle.row_rules.specs.Site.{name_of}
 use Rattle.machine.specs.Statement.{max_rows}
-use Rattle.machine.specs.Done.{CommandOutcome}
 use Rattle.machine.specs.Migrate.{complete, completed, completed_row, finish, invalid, may_not_complete, not_filled, not_filled_in, not_valid, numbers_of, stepped, table_without_loss, tidied, without_loss}
 use Rattle.machine.specs.Standing.{HalfStands, IsState, ModeStands, NewStands, NewerStands, NoneLost, NumbersAscend, RowStands, StepsStand, TablesStand, VersionStands, may_lose, may_miss}
 use Rattle.machine.proofs.Outcomes.{Holds, Stands, holds_without}
