@@ -94,7 +94,7 @@ no_least : (keys : List ℤ) (refuse : ℤ → Refusal) → option_map refuse (l
 no_least [] refuse h = refl
 no_least (key ∷ keys) refuse h = cc
 
-abbrev IsFilled : Kept → Type 0
+abbrev pub IsFilled : Kept → Type 0
 IsFilled row = is_some row.halves.new ≡ true
 
 abbrev unfilled_keys : List Kept → List ℤ
@@ -130,10 +130,10 @@ completed_row_stands s name schema fates is number row filled stands =
     }
 
 -- A table that both versions have.
-abbrev IsPaired : State → Rows → Type 0
+abbrev pub IsPaired : State → Rows → Type 0
 IsPaired s table = (lens : Lens) × Pair s table.0 lens
 
-all_paired : (s : State) (name : List ℕ) (schema : Schema) (fates : List (ℕ × Fate)) → s.mode ≡ Both name schema fates → NewerStands s name schema fates → Each (IsPaired s) s.tables
+pub all_paired : (s : State) (name : List ℕ) (schema : Schema) (fates : List (ℕ × Fate)) → s.mode ≡ Both name schema fates → NewerStands s name schema fates → Each (IsPaired s) s.tables
 all_paired s name schema fates is newer = each_so (λ u. list_any (nat_eq u.0) (numbers_of s) ≡ true) (IsPaired s) pair s.tables (each_among s.tables)
   where
     pair : (u : Rows) → list_any (nat_eq u.0) (numbers_of s) ≡ true → IsPaired s u
@@ -141,7 +141,7 @@ all_paired s name schema fates is newer = each_so (λ u. list_any (nat_eq u.0) (
         let kept = newer.kept u.0 among in
         (kept.0, paired s name schema fates is u.0 kept.0 kept.1 (newer.joined u.0 kept.0 kept.1))
 
-whole_tables : (s : State) → NumbersAscend (numbers_of s) → Each (IsPaired s) s.tables → not_filled s (numbers_of s) ≡ None → Each (λ table. Each IsFilled table.1) s.tables
+pub whole_tables : (s : State) → NumbersAscend (numbers_of s) → Each (IsPaired s) s.tables → not_filled s (numbers_of s) ≡ None → Each (λ table. Each IsFilled table.1) s.tables
 whole_tables s ascend pairs none =
     each_both (IsFound s.tables) (λ u. IsPaired s u × (not_filled_in s u.0 ≡ None)) (λ u. Each IsFilled u.1) whole s.tables (each_found s.tables ascend)
     (each_both (IsPaired s) (λ u. not_filled_in s u.0 ≡ None) (λ u. IsPaired s u × (not_filled_in s u.0 ≡ None)) (λ u p q. (p, q)) s.tables pairs (all_filled s s.tables none))
