@@ -66,7 +66,8 @@ pub fn add_while_held<R: Threads + Wait + Sync>(
     let (mut kept, two) = join(
         rt,
         move || -> Seat<Desk>
-            requires { IsSeatOf base_of shared.now kept × (places kept ≡ 0 ∷ []) × HasEntered kept × (given kept ≡ desk.history.items) × (desk.base ≡ shared.now.first.base) }
+            requires { IsSeatOf base_of shared.now kept × (places kept ≡ 0 ∷ []) × HasEntered kept
+                × (given kept ≡ desk.history.items) × (desk.base ≡ shared.now.first.base) }
             ensures { IsOne shared.entry.now 0 result }
         { leave_late(rt, shared, kept, desk) },
         move || -> (Seat<Desk>, Told)

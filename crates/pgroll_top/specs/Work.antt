@@ -1,15 +1,13 @@
 -- Histories, and what it means that a history does the work of an input.
-use Rattle.std.specs.Prelude.{◌≡◌, ◌⊎◌, ℕ, List, [], ◌∷◌, ◌++◌, Bool, true, false, Ok, Some, codes}
+use Rattle.std.specs.Prelude.{◌≡◌, ◌⊎◌, ℕ, List, [], ◌∷◌, ◌++◌, Bool, true, false, Ok, codes}
 use Rattle.std.specs.List.{list_any}
-use Rattle.std.specs.Option.{option_map}
 use Rattle.sql_base.specs.declared.stmts.Stmt.{Stmt}
 use Rattle.sql_small.specs.Small.{Reads}
 use Rattle.mig_lens.specs.declared.faults.Refusal.{Refusal}
 use Rattle.mig_lens.specs.declared.faults.Refusal.TheVariants as refusal
 use Rattle.mig_json.specs.declared.faults.JsonFault.{JsonFault}
 use Rattle.mig_json.specs.declared.faults.JsonFault.TheVariants as fault
-use Rattle.mig_json.specs.Migration.{IsReading}
-use Rattle.mig_json.specs.Reading.{text_fault}
+use Rattle.mig_json.specs.Migration.{IsReading, Fails}
 use Rattle.script_text.specs.declared.lines.Line.{Line}
 use Rattle.script_text.specs.declared.lines.Line.TheVariants.{Text, Command}
 use Rattle.script_text.specs.declared.lines.Order.TheVariants as order
@@ -81,7 +79,7 @@ refusal_of fault.NoMemory = refusal.Limit []
 -- What the text of a migration asks for: the migration that it reads as, or, where it reads as none, nothing, for its first fault.
 abbrev pub AsksFor : List ℕ → Asked → Type 0
 AsksFor text (Migrates migration) = IsReading text migration
-AsksFor text (NotRead refusal) = option_map refusal_of (text_fault text) ≡ Some refusal
+AsksFor text (NotRead refusal) = (f : JsonFault) × Fails text f × (refusal_of f ≡ refusal)
 
 -- What a line asks for.
 abbrev pub IsTask : Line → Task → Type 0

@@ -19,7 +19,7 @@ pub fn work<K: Sink>(alloc: Global, lines: &[Line], out: &mut K) -> Result<bool,
     ensures later { K.faults out.old ≤ K.faults out.new }
 {
     machine::laws::states_stand();
-    mig_json::laws::texts_without_fault_are_migrations();
+    mig_json::laws::texts_read_or_fail();
     sql_small::a_line_reads_or_not();
     let mut lane = Lane::new(alloc)?;
     for line in lines {

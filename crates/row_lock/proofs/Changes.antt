@@ -9,8 +9,8 @@ use Rattle.row_lock.specs.declared.locks.Lock.{Lock}
 use Rattle.row_lock.specs.declared.locks.Reach.{Reach}
 use Rattle.row_lock.specs.declared.locks.Reach.TheVariants.{Keys, Table}
 use Rattle.row_lock.specs.Apart.{AreApart, IsApartFrom, holds, overlaps, shares}
-use Rattle.row_lock.specs.Holding.{held, holder, is_part, lesser, lock_on, locks_on, meets, released}
-use Rattle.row_lock.specs.Laws.{ReleasesEach, ReleasingFrees, TakingHolds, but_not, covers}
+use Rattle.row_lock.specs.Holding.{held, holder, is_part, lesser, lock_on, locks_on, meets, locks_without}
+use Rattle.row_lock.specs.Laws.{ReleasesEach, ReleasingFrees, TakingHolds, other_than, covers}
 use Rattle.row_lock.proofs.Holders.{either}
 use Rattle.row_lock.proofs.Keeping.{IsPast, all_past}
 
@@ -24,13 +24,13 @@ filter_append : {X : Type 0} (p : X → Bool) (xs ys : List X) → filter p (xs 
 filter_append p [] ys = refl
 filter_append p (x ∷ xs) ys = append_more p x xs ys (p x) refl (filter_append p xs ys)
 
-released_keys : (ticket number table : ℕ) (keys : List ℤ) (b : Bool) → (number == ticket) ≡ b → released ticket (map (lock_on number table) keys) ≡ (if b then [] else map (lock_on number table) keys)
+released_keys : (ticket number table : ℕ) (keys : List ℤ) (b : Bool) → (number == ticket) ≡ b → locks_without ticket (map (lock_on number table) keys) ≡ (if b then [] else map (lock_on number table) keys)
 released_keys ticket number table [] true e = refl
 released_keys ticket number table [] false e = refl
 released_keys ticket number table (key ∷ keys) true e = rw e (released_keys ticket number table keys true e)
 released_keys ticket number table (key ∷ keys) false e = rw e (ap (λ more. lock_on number table key ∷ more) (released_keys ticket number table keys false e))
 
-released_reach : (ticket number table : ℕ) (reach : Reach) (b : Bool) → (number == ticket) ≡ b → released ticket (locks_on number table reach) ≡ (if b then [] else locks_on number table reach)
+released_reach : (ticket number table : ℕ) (reach : Reach) (b : Bool) → (number == ticket) ≡ b → locks_without ticket (locks_on number table reach) ≡ (if b then [] else locks_on number table reach)
 released_reach ticket number table (Keys keys) b e = released_keys ticket number table keys b e
 released_reach ticket number table Table true e = rw e refl
 released_reach ticket number table Table false e = rw e refl
@@ -42,13 +42,13 @@ module _ {X : Type 0} (number table : X → ℕ) (reach : X → Reach) (ticket :
   abbrev left : List X → List X
   left entries = filter (λ x. not (number x == ticket)) entries
 
-  entries_more : (x : X) (xs : List X) (b : Bool) → (number x == ticket) ≡ b → released ticket (flat_map locks_of xs) ≡ flat_map locks_of (left xs) → released ticket (flat_map locks_of (x ∷ xs)) ≡ flat_map locks_of (left (x ∷ xs))
+  entries_more : (x : X) (xs : List X) (b : Bool) → (number x == ticket) ≡ b → locks_without ticket (flat_map locks_of xs) ≡ flat_map locks_of (left xs) → locks_without ticket (flat_map locks_of (x ∷ xs)) ≡ flat_map locks_of (left (x ∷ xs))
   entries_more x xs true e rest =
-      filter_append (λ lock. not (lock.ticket == ticket)) (locks_of x) (flat_map locks_of xs) ∙ ap (λ mine. mine ++ released ticket (flat_map locks_of xs)) (released_reach ticket (number x) (table x) (reach x) true e) ∙ rest ∙ rw e refl
+      filter_append (λ lock. not (lock.ticket == ticket)) (locks_of x) (flat_map locks_of xs) ∙ ap (λ mine. mine ++ locks_without ticket (flat_map locks_of xs)) (released_reach ticket (number x) (table x) (reach x) true e) ∙ rest ∙ rw e refl
   entries_more x xs false e rest =
-      filter_append (λ lock. not (lock.ticket == ticket)) (locks_of x) (flat_map locks_of xs) ∙ ap (λ mine. mine ++ released ticket (flat_map locks_of xs)) (released_reach ticket (number x) (table x) (reach x) false e) ∙ ap (λ more. locks_of x ++ more) rest ∙ rw e refl
+      filter_append (λ lock. not (lock.ticket == ticket)) (locks_of x) (flat_map locks_of xs) ∙ ap (λ mine. mine ++ locks_without ticket (flat_map locks_of xs)) (released_reach ticket (number x) (table x) (reach x) false e) ∙ ap (λ more. locks_of x ++ more) rest ∙ rw e refl
 
-  pub released_entries : (entries : List X) → released ticket (flat_map locks_of entries) ≡ flat_map locks_of (left entries)
+  pub released_entries : (entries : List X) → locks_without ticket (flat_map locks_of entries) ≡ flat_map locks_of (left entries)
   released_entries [] = refl
   released_entries (x ∷ xs) = entries_more x xs (number x == ticket) refl (released_entries xs)
 
@@ -190,19 +190,19 @@ abbrev IsNoneOr : ℕ → Option ℕ → Type 0
 IsNoneOr n o = (o ≡ None) ⊎ (o ≡ Some n)
 
 abbrev IsFreed : ℕ → ℕ → ℤ → ℕ → List Lock → Type 0
-IsFreed ticket table key n locks = (held (released ticket locks) table key ≡ but_not ticket (held locks table key)) × IsNoneOr n (held locks table key)
+IsFreed ticket table key n locks = (held (locks_without ticket locks) table key ≡ other_than ticket (held locks table key)) × IsNoneOr n (held locks table key)
 
 alone : (n : ℕ) (o : Option ℕ) → IsNoneOr n o → Some (lesser n o) ≡ Some n
 alone n o (inl e) = ap (λ x. Some (lesser n x)) e
 alone n o (inr e) = ap (λ x. Some (lesser n x)) e ∙ ap Some (omega arith)
 
-gone : (ticket n : ℕ) (o : Option ℕ) → (n == ticket) ≡ true → IsNoneOr n o → but_not ticket o ≡ None
-gone ticket n o same (inl e) = ap (but_not ticket) e
-gone ticket n o same (inr e) = ap (but_not ticket) e ∙ rw same refl
+gone : (ticket n : ℕ) (o : Option ℕ) → (n == ticket) ≡ true → IsNoneOr n o → other_than ticket o ≡ None
+gone ticket n o same (inl e) = ap (other_than ticket) e
+gone ticket n o same (inr e) = ap (other_than ticket) e ∙ rw same refl
 
-kept : (ticket n : ℕ) (o : Option ℕ) → (n == ticket) ≡ false → IsNoneOr n o → but_not ticket o ≡ o
-kept ticket n o other (inl e) = ap (but_not ticket) e ∙ sym e
-kept ticket n o other (inr e) = ap (but_not ticket) e ∙ rw other (sym e)
+kept : (ticket n : ℕ) (o : Option ℕ) → (n == ticket) ≡ false → IsNoneOr n o → other_than ticket o ≡ o
+kept ticket n o other (inl e) = ap (other_than ticket) e ∙ sym e
+kept ticket n o other (inr e) = ap (other_than ticket) e ∙ rw other (sym e)
 
 freed_more : (ticket table : ℕ) (key : ℤ) (n : ℕ) (lock : Lock) (locks : List Lock) (a b : Bool) → meets table (Keys (key ∷ [])) lock ≡ a → (lock.ticket == ticket) ≡ b → IsOnes table key n lock → IsFreed ticket table key n locks
     → IsFreed ticket table key n (lock ∷ locks)
@@ -210,17 +210,17 @@ freed_more ticket table key n lock locks true true e f ones rest =
     let mine : n ≡ lock.ticket = ones e in
     let is : held (lock ∷ locks) table key ≡ Some n = rw e (ap (λ m. Some (lesser m (held locks table key))) (sym mine) ∙ alone n (held locks table key) rest.1) in
     let same : (n == ticket) ≡ true = ap (λ m. m == ticket) mine ∙ f in
-    let none : held (released ticket (lock ∷ locks)) table key ≡ None = rw f (rest.0 ∙ gone ticket n (held locks table key) same rest.1) in
-    let out : but_not ticket (Some n) ≡ None = rw same refl in
-    (none ∙ sym (ap (but_not ticket) is ∙ out), inr is)
+    let none : held (locks_without ticket (lock ∷ locks)) table key ≡ None = rw f (rest.0 ∙ gone ticket n (held locks table key) same rest.1) in
+    let out : other_than ticket (Some n) ≡ None = rw same refl in
+    (none ∙ sym (ap (other_than ticket) is ∙ out), inr is)
 freed_more ticket table key n lock locks true false e f ones rest =
     let mine : n ≡ lock.ticket = ones e in
     let is : held (lock ∷ locks) table key ≡ Some n = rw e (ap (λ m. Some (lesser m (held locks table key))) (sym mine) ∙ alone n (held locks table key) rest.1) in
     let other : (n == ticket) ≡ false = ap (λ m. m == ticket) mine ∙ f in
-    let still : held (released ticket locks) table key ≡ held locks table key = rest.0 ∙ kept ticket n (held locks table key) other rest.1 in
-    let some : held (released ticket (lock ∷ locks)) table key ≡ Some n = rw (f, e) (ap (λ o. Some (lesser lock.ticket o)) still ∙ ap (λ m. Some (lesser m (held locks table key))) (sym mine) ∙ alone n (held locks table key) rest.1) in
-    let out : but_not ticket (Some n) ≡ Some n = rw other refl in
-    (some ∙ sym (ap (but_not ticket) is ∙ out), inr is)
+    let still : held (locks_without ticket locks) table key ≡ held locks table key = rest.0 ∙ kept ticket n (held locks table key) other rest.1 in
+    let some : held (locks_without ticket (lock ∷ locks)) table key ≡ Some n = rw (f, e) (ap (λ o. Some (lesser lock.ticket o)) still ∙ ap (λ m. Some (lesser m (held locks table key))) (sym mine) ∙ alone n (held locks table key) rest.1) in
+    let out : other_than ticket (Some n) ≡ Some n = rw other refl in
+    (some ∙ sym (ap (other_than ticket) is ∙ out), inr is)
 freed_more ticket table key n lock locks false true e f ones rest = rw (f, e) rest
 freed_more ticket table key n lock locks false false e f ones rest = rw (f, e) rest
 
@@ -229,7 +229,7 @@ freed ticket table key n [] ones = (refl, inl refl)
 freed ticket table key n (lock ∷ locks) ones = freed_more ticket table key n lock locks (meets table (Keys (key ∷ [])) lock) (lock.ticket == ticket) refl refl ones.0 (freed ticket table key n locks ones.1)
 
 frees_more : (ticket table : ℕ) (key : ℤ) (lock : Lock) (locks : List Lock) (a b : Bool) → meets table (Keys (key ∷ [])) lock ≡ a → (lock.ticket == ticket) ≡ b → AreApart (lock ∷ locks)
-    → held (released ticket locks) table key ≡ but_not ticket (held locks table key) → held (released ticket (lock ∷ locks)) table key ≡ but_not ticket (held (lock ∷ locks) table key)
+    → held (locks_without ticket locks) table key ≡ other_than ticket (held locks table key) → held (locks_without ticket (lock ∷ locks)) table key ≡ other_than ticket (held (lock ∷ locks) table key)
 frees_more ticket table key lock locks true b e f apart rest = (freed ticket table key lock.ticket (lock ∷ locks) ((λ _. refl), all_ones table key lock locks e apart.0)).0
 frees_more ticket table key lock locks false true e f apart rest = rw (f, e) rest
 frees_more ticket table key lock locks false false e f apart rest = rw (f, e) rest

@@ -10,13 +10,13 @@ use Rattle.sql_base.specs.declared.values.Value.{Value}
 use Rattle.row_store.specs.Laws.{FirstIsLeast, HasNoneFrom, IsLeastFrom, PutIsInOrder, RemovedIsLeftOut}
 use Rattle.row_store.specs.Stored.{Rows, first_from}
 use Rattle.row_store.proofs.Placed.{Rises, absent_below, absent_more, cmp_flips, first_below, flips_back, less, rest_rises, without}
-use Rattle.row_store.proofs.Maps.{entries_meant, meant, rises, without_meant, without_rises}
+use Rattle.row_store.proofs.Maps.{entries-map_of, map_of, rises, without-map_of, without_rises}
 
 rows_rise : (rows : Rows) → Rises (map.entries rows)
 rows_rise rows = rises (map.entries rows) (map.entries_sorted rows)
 
-again : (rows : Rows) → meant (map.entries rows) ≡ rows
-again rows = map.same_entries_map _ _ (entries_meant (map.entries rows) (rows_rise rows))
+again : (rows : Rows) → map_of (map.entries rows) ≡ rows
+again rows = map.same_entries_map _ _ (entries-map_of (map.entries rows) (rows_rise rows))
 
 pub put_is_in_order : PutIsInOrder
 put_is_in_order rows key row = map.entries-insert int_cmp_total rows key row
@@ -24,8 +24,8 @@ put_is_in_order rows key row = map.entries-insert int_cmp_total rows key row
 pub removed_is_left_out : RemovedIsLeftOut
 removed_is_left_out rows key =
     let entries = map.entries rows in
-    let is : meant (without key entries) ≡ map.remove rows key = without_meant key entries (rows_rise rows) ∙ ap (λ m. map.remove m key) (again rows) in
-    ap (λ (m : Rows). map.entries m) (sym is) ∙ entries_meant (without key entries) (without_rises key entries (rows_rise rows))
+    let is : map_of (without key entries) ≡ map.remove rows key = without-map_of key entries (rows_rise rows) ∙ ap (λ m. map.remove m key) (again rows) in
+    ap (λ (m : Rows). map.entries m) (sym is) ∙ entries-map_of (without key entries) (without_rises key entries (rows_rise rows))
 
 -- ---- the least key
 
