@@ -1,15 +1,14 @@
 -- The changes of a statement or of a batch lead from a state that stands to one.
-use Rattle.std.proofs.Common.{◌≡◌, ◌∙◌, ℕ, ◌≤◌, List, [], ◌∷◌, Bool, true, false, ◌==◌, Ok, ap, refl, sym, subst, length, find}
+use Rattle.std.proofs.Common.{◌≡◌, ℕ, ◌≤◌, List, [], ◌∷◌, false, ◌==◌, Ok, ap, length, find}
 use Rattle.std.specs.List.{AllByRecursion as Each}
 use Rattle.std.specs.Option.{option_map_or}
 use Rattle.row_rules.specs.Changes.{after_changes, changes}
 use Rattle.row_rules.specs.Site.{number_of, shape_of}
-use Rattle.machine.specs.Sites.{OfPut, ChangeStands, JobStands, SiteRow, TableStands}
-use Rattle.machine.specs.Standing.{Ascends, IsState, NoneLost, NothingLost, RowStands, RowsStand, may_lose}
+use Rattle.machine.specs.Sites.{JobStands, SiteRow, TableStands}
+use Rattle.machine.specs.Standing.{IsState, NoneLost, RowStands, RowsStand, may_lose}
 use Rattle.machine.specs.State.{Found, lost_columns_of, row_count, rows_of, site_of, with_rows}
 use Rattle.machine.specs.Statement.{max_rows}
 use Rattle.machine.specs.Words.{Change, Job, Kept, State}
-use Rattle.row_rules.specs.declared.kinds.Change.TheVariants.{Put, Remove}
 use Rattle.machine.specs.Below.{Below}
 use Rattle.machine.proofs.FoundSites.{row_off_site, row_on_site, site_stands}
 use Rattle.machine.proofs.Moving.{each_both, each_so}

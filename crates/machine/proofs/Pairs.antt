@@ -19,7 +19,7 @@ use Rattle.machine.specs.State.{Found, Shared, Version, lens_between, newer_call
 use Rattle.row_rules.specs.Site.{name_of, number_of, shape_of}
 use Rattle.machine.proofs.Placing.{neither}
 use Rattle.machine.specs.Migrate.{numbers_of}
-use Rattle.machine.specs.Sites.{JoinsShapes, PairStands, TableStands}
+use Rattle.machine.specs.Sites.{PairStands, TableStands}
 use Rattle.machine.specs.Standing.{IsState, ModeStands}
 
 -- ---- tables that both versions have
