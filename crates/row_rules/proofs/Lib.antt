@@ -1,6 +1,8 @@
+pub mod Ascending
 pub mod Asking
 pub mod Calls
 pub mod Clashing
+pub mod Lasting
 pub mod Making
 pub mod Passing
 pub mod Places

@@ -2,6 +2,7 @@ pub mod Accept
 pub mod Changes
 pub mod Causes
 pub mod Inner
+pub mod Laws
 pub mod Outcome
 pub mod Rows
 pub mod Settle

@@ -15,6 +15,7 @@ mod changing;
 mod halves;
 mod inserting;
 mod kinds;
+pub mod laws;
 mod outcomes;
 mod rows;
 mod settling;
