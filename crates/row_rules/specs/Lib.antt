@@ -3,6 +3,7 @@ pub mod Changes
 pub mod Causes
 pub mod Inner
 pub mod Outcome
+pub mod Reach
 pub mod Rows
 pub mod Settle
 pub mod Show

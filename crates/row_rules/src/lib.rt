@@ -12,6 +12,7 @@
 pub mod causes;
 mod changing;
 mod kinds;
+mod reach;
 mod rows;
 mod settling;
 mod showing;
@@ -22,6 +23,7 @@ mod together;
 
 pub use changing::changes;
 pub use kinds::{Cause, Change, Halves, Job, Kept, SqlError, Table};
+pub use reach::key_named;
 pub use rows::{TableRows, any_missing, least_missing, missing_rows};
 pub use settling::{delete_job, insert_job, query_error, update_job};
 pub use showing::{MAX_REPLY, rows_shown};
