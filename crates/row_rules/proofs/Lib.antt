@@ -1,1 +1,4 @@
+pub mod Looking
 pub mod Places
+pub mod Reaching
+pub mod ShownKeys

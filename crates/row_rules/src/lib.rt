@@ -13,6 +13,7 @@ pub mod causes;
 mod changing;
 mod kinds;
 mod reach;
+pub mod reach_laws;
 mod rows;
 mod settling;
 mod showing;

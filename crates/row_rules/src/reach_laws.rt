@@ -1,0 +1,18 @@
+//! Laws of the reach of a statement, over the definitions alone. Each is the contract of a function that does nothing.
+ghost use Rattle.row_rules.specs.InReach.{AltersWithin, MatchesWithin, RemovesWithin, ShowsWithin, StandingShowKeys};
+
+/// A row whose half on the statement's side fits the shape, with the row's key in the key's place, shows its key; so does
+/// a row without its new half through the new version, where the new key carries the old one.
+pub fn standing_rows_show_their_keys()
+    ensures { StandingShowKeys }
+{}
+
+/// A statement whose WHERE names one key looks at no other row than that of this key. Over rows that show their keys,
+/// which rows pass, what an UPDATE or a DELETE does, and what a SELECT shows are the same as over the rows reached
+/// alone, value or fault: of a row of another key the WHERE is false, and nothing faults.
+pub fn statements_stay_within_reach()
+    ensures matching { MatchesWithin }
+    ensures altering { AltersWithin }
+    ensures removing { RemovesWithin }
+    ensures showing { ShowsWithin }
+{}
