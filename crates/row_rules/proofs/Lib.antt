@@ -1,4 +1,5 @@
 pub mod Looking
+pub mod OneRow
 pub mod Places
 pub mod Reaching
 pub mod ShownKeys

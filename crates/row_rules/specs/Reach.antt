@@ -2,7 +2,9 @@
 --
 -- A WHERE names one key where it is `key = n` or `n = key`, or an AND whose left operand names one. AND looks at its right operand only where the left one isn't false, so over a row of another key nothing but the key is looked at.
 use Rattle.std.specs.Prelude.{ℕ, ℤ, ◌==◌, Bool, false, List, [], ◌∷◌, Option, Some, None, if◌then◌else◌}
+use Rattle.std.specs.List.{find}
 use Rattle.std.specs.Option.{option_map_or, option_and_then}
+use Rattle.std.specs.Ordering.{int_eq}
 use Rattle.sql_base.specs.declared.exprs.BinOp.{BinOp}
 use Rattle.sql_base.specs.declared.exprs.BinOp.TheVariants as op
 use Rattle.sql_base.specs.declared.exprs.Expr.TheFolds.{fold-Expr}
@@ -73,3 +75,12 @@ reach shape condition = option_and_then (key_named shape) condition
 abbrev pub rows_reached : Option ℤ → List Kept → List Kept
 rows_reached None rows = rows
 rows_reached (Some key) rows = rows_at (key ∷ []) rows
+
+-- The row of this key, where there is one.
+abbrev pub row_of : ℤ → List Kept → Option Kept
+row_of key rows = find (λ row. int_eq row.key key) rows
+
+-- One row or none, as rows.
+abbrev pub row_alone : Option Kept → List Kept
+row_alone None = []
+row_alone (Some row) = row ∷ []

@@ -1,5 +1,5 @@
 //! Laws of the reach of a statement, over the definitions alone. Each is the contract of a function that does nothing.
-ghost use Rattle.row_rules.specs.InReach.{AltersWithin, MatchesWithin, RemovesWithin, ShowsWithin, StandingShowKeys};
+ghost use Rattle.row_rules.specs.InReach.{AltersWithin, MatchesWithin, ReachesOne, RemovesWithin, ShowsWithin, StandingShowKeys};
 
 /// A row whose half on the statement's side fits the shape, with the row's key in the key's place, shows its key; so does
 /// a row without its new half through the new version, where the new key carries the old one.
@@ -15,4 +15,10 @@ pub fn statements_stay_within_reach()
     ensures altering { AltersWithin }
     ensures removing { RemovesWithin }
     ensures showing { ShowsWithin }
+{}
+
+/// Of rows in ascending key the rows of one key are its row, or none. So a table that finds a row by its key needs to
+/// look at no other.
+pub fn a_key_reaches_one_row()
+    ensures { ReachesOne }
 {}
