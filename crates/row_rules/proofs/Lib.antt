@@ -1,3 +1,4 @@
+pub mod KeyForms
 pub mod Looking
 pub mod OneRow
 pub mod Places

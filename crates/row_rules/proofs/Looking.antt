@@ -1,11 +1,10 @@
 -- That a statement over the rows of its reach does what it does over all rows.
-use Rattle.std.proofs.Common.{◌≡◌, ◌∙◌, ℕ, ℤ, List, [], ◌∷◌, Bool, true, false, ◌||◌, cond, Option, Some, None, Result, Ok, Err, refl, sym, ap, map}
+use Rattle.std.proofs.Common.{◌≡◌, ◌∙◌, ℕ, ℤ, List, [], ◌∷◌, Bool, true, false, cond, Option, Some, None, Result, Ok, Err, refl, sym, ap, map}
 use Rattle.std.specs.Prelude.{slice_index_or}
-use Rattle.std.specs.List.{AllByRecursion, filter, filter_map, list_any}
+use Rattle.std.specs.List.{filter_map}
 use Rattle.std.specs.Ordering.{int_eq}
 use Rattle.row_rules.specs.Changes.{matching, passes, row_passed}
-use Rattle.row_rules.specs.InReach.{MatchesWithin, ShowsKey, ShowKeys, ShowsWithin, within}
-use Rattle.row_rules.specs.Outcome.{map_fault}
+use Rattle.row_rules.specs.InReach.{MatchesWithin, ShowsKey, ShowKeys, ShowsWithin}
 use Rattle.row_rules.specs.Reach.{reach, rows_reached}
 use Rattle.row_rules.specs.Rows.{rows_at}
 use Rattle.row_rules.specs.Show.{room_after, row_shown, rows_shown, with_shown}

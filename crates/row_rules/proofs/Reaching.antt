@@ -7,9 +7,9 @@ use Rattle.std.proofs.lemmas.Bool.Decides.{Decides-int_eq, nat_tests}
 use Rattle.sql_base.specs.declared.exprs.Arm.{Arm}
 use Rattle.sql_base.specs.declared.exprs.BinOp.{BinOp}
 use Rattle.sql_base.specs.declared.exprs.BinOp.TheVariants as op
-use Rattle.sql_base.specs.declared.exprs.Expr.TheFolds.{fold-Arm, fold-roll-Expr, ind-Expr, map-Arm, map-Expr}
-use Rattle.sql_base.specs.declared.exprs.Expr.TheOpen.{Arm-F, Expr-F}
-use Rattle.sql_base.specs.declared.exprs.Expr.TheViews.{roll-Arm, roll-Expr}
+use Rattle.sql_base.specs.declared.exprs.Expr.TheFolds.{fold-Arm, fold-roll-Expr, ind-Expr, map-Expr}
+use Rattle.sql_base.specs.declared.exprs.Expr.TheOpen.{Expr-F}
+use Rattle.sql_base.specs.declared.exprs.Expr.TheViews.{roll-Expr}
 use Rattle.sql_base.specs.declared.values.Value.TheVariants.{Bool as Truth, Text}
 use Rattle.sql_eval.specs.Eval as valued
 use Rattle.sql_eval.specs.Eval.{binary, eval, eval_arm, eval_step, value_at}

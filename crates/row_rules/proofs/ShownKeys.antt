@@ -1,7 +1,6 @@
 -- That rows which stand show their keys.
-use Rattle.std.proofs.Common.{◌≡◌, ◌∙◌, ℕ, zero, suc, ℤ, List, [], ◌∷◌, Bool, true, false, Option, Some, None, refl, sym, ap, map, arith}
+use Rattle.std.proofs.Common.{◌≡◌, ◌∙◌, ℕ, zero, suc, ℤ, List, [], ◌∷◌, true, Option, Some, None, ap, map, arith}
 use Rattle.std.specs.Prelude.{slice_get, slice_index_or, unwrap_or}
-use Rattle.std.specs.List.{AllByRecursion}
 use Rattle.std.proofs.lemmas.Bool.Decides.{nat_tests}
 use Rattle.sql_base.specs.Fit.{fits_columns, is_integer}
 use Rattle.sql_base.specs.Laws.{both}
@@ -9,8 +8,8 @@ use Rattle.sql_base.specs.declared.values.Value.TheVariants.{Bool as Truth, Text
 use Rattle.mig_lens.specs.declared.columns.Cell.{Cell}
 use Rattle.mig_lens.specs.declared.columns.Cell.TheVariants.{Carry, Make, Still}
 use Rattle.mig_lens.specs.Lens.{is_carried_from, unfilled_value}
-use Rattle.row_rules.specs.InReach.{HasHalf, IsHalf, IsUnfilled, NewStands, ShownStands, ShowsKey, SideStands, StandingShowKeys, UnfilledStands}
-use Rattle.row_rules.specs.Site.{Beside, Site, integer, shape_of, shown_by, shown_unfilled}
+use Rattle.row_rules.specs.InReach.{HasHalf, IsHalf, NewStands, SideStands, StandingShowKeys, UnfilledStands}
+use Rattle.row_rules.specs.Site.{Beside, integer, shape_of, shown_by, shown_unfilled}
 use Rattle.row_rules.specs.Words.{Int, Kept, New, Null, Old, Side, Table, Value}
 
 integer_there : (values : List Value) (k : ℕ) (key : ℤ) → is_integer (slice_index_or values k Null) ≡ true → integer (slice_get values k) ≡ key → slice_index_or values k Null ≡ Int key
@@ -48,6 +47,7 @@ shows New here there row stands = by_half row.halves.new stands
     unfilled_shows (Some beside) h =
         carried_shows (unwrap_or row.halves.old []) beside.lens.new_cols (shape_of here).key (shape_of beside.table).key h.carried
         ∙ old_shows beside.table row.key row.halves.old h.half
+
     by_half : (half : Option (List Value)) → NewStands here there row.key row.halves.old half → slice_index_or (unwrap_or half (shown_unfilled there row.halves)) (shape_of here).key Null ≡ Int row.key
     by_half None h = unfilled_shows there h
     by_half (Some values) h = half_shows here row.key values h

@@ -1,6 +1,7 @@
 pub mod Accept
 pub mod Changes
 pub mod Causes
+pub mod Forms
 pub mod InReach
 pub mod Inner
 pub mod Outcome

@@ -1,5 +1,13 @@
 //! Laws of the reach of a statement, over the definitions alone. Each is the contract of a function that does nothing.
+ghost use Rattle.row_rules.specs.Forms.{FormsName, NamedByForm};
 ghost use Rattle.row_rules.specs.InReach.{AltersWithin, MatchesWithin, ReachesOne, RemovesWithin, ShowsWithin, StandingShowKeys};
+
+/// A condition names a key exactly where it is `key = n` or `n = key`, with an integer literal, or an AND whose left
+/// operand names it.
+pub fn conditions_name_keys_by_their_form()
+    ensures only { NamedByForm }
+    ensures each { FormsName }
+{}
 
 /// A row whose half on the statement's side fits the shape, with the row's key in the key's place, shows its key; so does
 /// a row without its new half through the new version, where the new key carries the old one.

@@ -3,7 +3,6 @@ ghost use Rattle.std.specs.Prelude.{◌≡◌, ◌<◌, Some, IfOk, is_none, len
 ghost use Rattle.std.specs.List.{filter, list_any};
 ghost use Rattle.std.specs.Option.{option_map};
 ghost use Rattle.std.specs.Ordering.{int_eq};
-
 ghost use Rattle.sql_eval.specs.Row.{least};
 ghost use Rattle.row_rules.specs.Inner as inner;
 ghost use Rattle.row_rules.specs.Rows.{missing_keys};
