@@ -1,7 +1,3 @@
-pub mod Completing
 pub mod Engine
-pub mod Filling
-pub mod Lines
-pub mod Starting
+pub mod Seen
 pub mod Store
-pub mod Views

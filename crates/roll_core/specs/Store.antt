@@ -25,14 +25,9 @@ use Rattle.trigger_pair.specs.Stored.{new_half, new_view, old_view, stored_row}
 use Rattle.phase_steps.specs.Rows.{IsTrimmedRow, left_row, pair_of, trimmed, trimmed_view}
 use Rattle.roll_core.specs.declared.forms.Form.{Form}
 use Rattle.roll_core.specs.declared.forms.Form.TheVariants.{Own, Paired, Left, Trimmed}
+use Rattle.roll_core.specs.declared.store.Former.{Former}
 
 -- ---- what is kept of a version that is gone
-
--- Its name, its tables, and what became of each of them.
-pub record Former : Type 0 where
-  pub version : List ℕ
-  pub schema : Schema
-  pub fates : List (ℕ × Fate)
 
 -- The state as both versions stood, seen from after the first step of completing.
 abbrev pub both_again : Former → State → State
