@@ -1,5 +1,5 @@
 //! The rows that are written while the old columns that aren't carried are still stored.
-ghost use Rattle.std.specs.Prelude.{◌≡◌, map, IfOk};
+ghost use Rattle.std.specs.Prelude.{◌≡◌, IfOk};
 ghost use Rattle.std.specs.Option.{option_copied};
 ghost use Rattle.phase_steps.specs.Rows as spec;
 
@@ -8,37 +8,6 @@ use mig_lens::{Cell, Lens};
 use sql_base::{List, NoMemory, Value};
 use std::alloc::Global;
 use trigger_pair::parts::{joined, value_at};
-
-/// What a row that is written after C1 has in an old column's place.
-fn leaving_value(alloc: Global, values: &[Value], cell: &Cell) -> Result<Value, NoMemory>
-    ensures { IfOk result (λ value. value ≡ spec.leaving_value values.now cell.now) }
-{
-    match cell {
-        Cell::Carry(at) => value_at(alloc, values, *at as usize),
-        Cell::Make(_) | Cell::Still(_) => Ok(Value::Null),
-    }
-}
-
-fn leaving_values(alloc: Global, cells: &[Cell], new: &[Value]) -> Result<List<Value>, NoMemory>
-    ensures { IfOk result (λ values. values ≡ map (spec.leaving_value new.now) cells.now) }
-{
-    let mut values = List::new(alloc);
-    for cell in cells {
-        values.push(leaving_value(alloc, new, cell)?)?;
-    }
-    Ok(values)
-}
-
-/// The stored row of new values that are written between C1 and C2, where nothing was stored before.
-///
-/// The places that the new version shows have these values, an old column that isn't carried is NULL, and the row isn't
-/// marked. An error is want of memory.
-pub fn leaving_row(alloc: Global, lens: &Lens, values: &[Value]) -> Result<List<Value>, NoMemory>
-    ensures { IfOk result (λ row. row ≡ spec.leaving_row lens.now values.now) }
-{
-    let old = leaving_values(alloc, lens.old_cols.as_slice(), values)?;
-    joined(alloc, lens, has_mark(lens), old, values, false)
-}
 
 /// What an old column's place holds, which has this number, when values are written over what was held.
 fn left_value(
