@@ -1,5 +1,5 @@
 //! The engine: stored rows, and the calls that are steps of the machine.
-ghost use Rattle.std.specs.Prelude.{◌≡◌, true, IfOk, OnErr};
+ghost use Rattle.std.specs.Prelude.{◌≡◌, [], true, IfOk, OnErr};
 ghost use Rattle.machine.specs.declared.events.Event.TheVariants.{Said, Fill};
 ghost use Rattle.machine.specs.declared.events.Reading.TheVariants.{Stmt as Read};
 ghost use Rattle.machine.specs.State.{beginning};

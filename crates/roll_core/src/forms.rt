@@ -1,5 +1,5 @@
 //! The forms in which the rows of a table are stored, and the halves that a stored row has.
-ghost use Rattle.std.specs.Prelude.{◌≡◌, IfOk};
+ghost use Rattle.std.specs.Prelude.{◌≡◌, IfOk, None, Some, is_none};
 ghost use Rattle.machine.specs.Migrate as migrate;
 ghost use Rattle.trigger_pair.specs.Stored as stored;
 ghost use Rattle.roll_core.specs.Store as spec;
