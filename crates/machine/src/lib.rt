@@ -3,6 +3,7 @@
 
 mod events;
 mod fill;
+pub mod laws;
 pub mod parts;
 mod refusals;
 mod replies;

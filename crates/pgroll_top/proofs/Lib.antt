@@ -2,7 +2,6 @@ pub mod Advancing
 pub mod Causes
 pub mod Closing
 pub mod Following
-pub mod Joining
 pub mod Reading
 pub mod Refusals
 pub mod Repeating

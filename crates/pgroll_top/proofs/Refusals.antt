@@ -21,7 +21,7 @@ use Rattle.machine.specs.Follows as follow
 use Rattle.machine.specs.Laws.{OnlyCommandsAreRefused}
 use Rattle.machine.specs.Step.{Run, Step}
 use Rattle.machine.specs.State.{beginning, path_name}
-use Rattle.roll_core.specs.Lines.{code_text, four_words, numbered, reply_text, refusal_text, row_text}
+use Rattle.report.specs.Lines.{code_text, four_words, numbered, reply_text, refusal_text, row_text}
 use Rattle.pgroll_top.specs.declared.ending.End.{End}
 use Rattle.pgroll_top.specs.declared.ending.End.TheVariants.{Done, Refused, Usage, ReadFault, InputTooLong, BadScript, WantOfMemory}
 use Rattle.pgroll_top.specs.Top.{AreLines, Because, EndsInNewline, Explains, TellsRefusal, end_line, status_of}

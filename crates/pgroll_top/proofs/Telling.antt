@@ -13,7 +13,7 @@ use Rattle.pgroll_top.specs.Top.{end_line}
 use Rattle.pgroll_top.specs.declared.ending.End.TheVariants.{BadScript}
 use Rattle.mig_lens.specs.declared.faults.Refusal.TheVariants as refusal
 use Rattle.machine.specs.declared.events.Reply.TheVariants.{Refused}
-use Rattle.roll_core.specs.Lines.{reply_text}
+use Rattle.report.specs.Lines.{reply_text}
 use Rattle.std.proofs.lemmas.Fmt.{decimal_digit}
 
 pub lines_append : (h e : List Entry) → lines_of h ++ lines_of e ≡ lines_of (h ++ e)

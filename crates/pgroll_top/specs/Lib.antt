@@ -1,4 +1,3 @@
 pub mod Parts
-pub mod Report
 pub mod Top
 pub mod Work

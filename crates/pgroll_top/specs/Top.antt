@@ -9,7 +9,7 @@ use Rattle.mig_lens.specs.declared.faults.Refusal.TheVariants as refusal
 use Rattle.script_text.specs.Script.{script_of}
 use Rattle.machine.specs.declared.events.Entry.{Entry}
 use Rattle.machine.specs.declared.events.Reply.TheVariants as reply
-use Rattle.roll_core.specs.Lines.{numbered}
+use Rattle.report.specs.Lines.{numbered}
 use Rattle.pgroll_top.specs.declared.ending.End.{End}
 use Rattle.pgroll_top.specs.declared.ending.End.TheVariants.{Done, Refused, Usage, ReadFault, InputTooLong, BadScript, WantOfMemory}
 use Rattle.pgroll_top.specs.Work.{IsHistory, IsShown, Follows, Begins, has_refusal, lines_of, line_of}

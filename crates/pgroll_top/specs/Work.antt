@@ -27,7 +27,7 @@ use Rattle.machine.specs.declared.tasks.Task.TheVariants as task
 use Rattle.machine.specs.Follows as lane
 use Rattle.machine.specs.State.{beginning, path_name}
 use Rattle.machine.specs.Step.{LaneRun, Run}
-use Rattle.roll_core.specs.Lines as lines
+use Rattle.report.specs.Lines as lines
 
 -- ---- actors
 

@@ -9,13 +9,13 @@ ghost use Rattle.machine.specs.declared.tasks.Task.TheVariants as Task;
 ghost use Rattle.machine.specs.Follows.{goes_on_completing, goes_on_filling, path_by};
 ghost use Rattle.machine.specs.Standing.{IsState};
 ghost use Rattle.machine.specs.Step.{Step};
-ghost use Rattle.roll_core.specs.Lines.{numbered};
+ghost use Rattle.report.specs.Lines.{numbered};
 ghost use Rattle.pgroll_top.specs.Parts.{DoesLine, DoesTask, IsReading, Shows, new_lane};
 ghost use Rattle.pgroll_top.specs.Work.{AsksFor, ReadsAs, first_path, refuses};
 
 use crate::asking::asked;
 use crate::ending::Stop;
-use crate::report::line_of;
+use report::line_of;
 use machine::Reply;
 use pg_io::{Sink, write_whole};
 use roll_core::{Cmd, Core};

@@ -6,8 +6,6 @@ mod command;
 mod ending;
 mod exec;
 mod lanes;
-mod refused;
-mod report;
 
 pub use command::top;
 pub use ending::{End, close};

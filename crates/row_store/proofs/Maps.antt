@@ -32,7 +32,7 @@ module _ {X : Type 0} where
   pub empty_meant : (entries : List (ℤ × X)) → entries ≡ [] → meant entries ≡ map.empty
   empty_meant entries e = ap meant e ∙ map.empty_of_len (meant []) (len_meant [] refl)
 
-  rises : (entries : List (ℤ × X)) → T (map.is_sorted int_cmp entries) → Rises entries
+  pub rises : (entries : List (ℤ × X)) → T (map.is_sorted int_cmp entries) → Rises entries
   rises entries h = by_test (map.is_sorted int_cmp entries) h
     where
       by_test : (b : Bool) → T b → b ≡ true

@@ -1,6 +1,8 @@
 //! Why an expression has no value or no type.
+use crate::copies::Copying;
 use crate::memory::NoMemory;
 use crate::texts::Name;
+use std::alloc::Global;
 use thiserror::Error;
 
 /// Why an expression has no value.
@@ -57,6 +59,16 @@ pub enum TypeFault {
     /// Memory was refused.
     #[error("out of memory")]
     NoMemory,
+}
+
+impl Copying for TypeFault {
+    fn copy(&self, alloc: Global) -> Result<TypeFault, NoMemory> {
+        match self {
+            TypeFault::NoColumn(name) => Ok(TypeFault::NoColumn(name.copy(alloc)?)),
+            TypeFault::Mismatch => Ok(TypeFault::Mismatch),
+            TypeFault::NoMemory => Ok(TypeFault::NoMemory),
+        }
+    }
 }
 
 impl From<NoMemory> for EvalFault {

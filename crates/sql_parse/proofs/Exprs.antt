@@ -16,7 +16,8 @@ use Rattle.sql_parse.specs.declared.machine.State.TheVariants as q
 use Rattle.sql_parse.specs.Grammar.{IsText}
 use Rattle.sql_parse.specs.Laws.{ReadBack, TreesHaveText}
 use Rattle.sql_parse.specs.Machine.{run, step, then_step, settled, by_last}
-use Rattle.sql_parse.specs.Reading.{kinds, Answers, ReadsAgain, takes_number, IsEnded, IsTreeOf}
+use Rattle.sql_parse.specs.Reader.{takes_number, Answers, IsEnded, IsTreeOf}
+use Rattle.sql_parse.specs.Reading.{kinds, ReadsAgain}
 use Rattle.sql_parse.proofs.Complete.{run-append, one_tree}
 use Rattle.sql_parse.proofs.Runs.{goes, runs, Tells}
 use Rattle.sql_parse.proofs.Told.{only, all_read}

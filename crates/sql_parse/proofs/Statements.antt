@@ -19,7 +19,8 @@ use Rattle.sql_parse.specs.declared.stages.Stage.{Stage}
 use Rattle.sql_parse.specs.declared.stages.Stage.TheVariants as g
 use Rattle.sql_parse.specs.Grammar.{IsStmt}
 use Rattle.sql_parse.specs.Machine.{step}
-use Rattle.sql_parse.specs.Reading.{kinds, stmt_depth, Answers, takes_number_there, IsEnded, IsStmtOf}
+use Rattle.sql_parse.specs.Reader.{takes_number_there, Answers, IsEnded, IsStmtOf}
+use Rattle.sql_parse.specs.Reading.{kinds, stmt_depth}
 use Rattle.sql_parse.specs.Stages.{behind, whole, is_whole, left_at, within, stage_step}
 use Rattle.sql_parse.specs.Viable.{ViableStmt}
 use Rattle.sql_parse.proofs.Exprs.{number, no_number}

@@ -1,14 +1,16 @@
 -- What is answered to placed tokens, by a machine that tells.
-use Rattle.std.proofs.Common.{◌≡◌, ℕ, zero, ◌+◌, ◌<◌, ◌≤◌, List, [], ◌∷◌, ◌++◌, Bool, true, false, Option, Some, None, refl, sym, ap, ◌∙◌, subst, arith, take, drop, length, get_or, map, append_assoc, Result, Ok, Err, take-append-drop, suc, ◌^◌, ◌≢◌}
+use Rattle.std.proofs.Common.{◌≡◌, ℕ, zero, ◌+◌, ◌<◌, ◌≤◌, List, [], ◌∷◌, ◌++◌, Bool, true, false, Option, Some, None, refl, sym, ap, ◌∙◌, subst, arith, take, drop, length, get_or, map, append_assoc, Result, Ok, Err, MatchResult, IfErr, take-append-drop, suc, ◌^◌, ◌≢◌}
 use Rattle.std.specs.List.{AllByRecursion}
 use Rattle.std.proofs.lemmas.List.{take_more, take_all, map-append}
 use Rattle.sql_text.specs.declared.tokens.Placed.{Placed}
 use Rattle.sql_text.specs.declared.tokens.Token.{Token}
 use Rattle.sql_text.specs.declared.tokens.Token.TheVariants as t
+use Rattle.sql_text.specs.Lexing.{lexed}
 use Rattle.sql_parse.specs.declared.faults.ParseFault.{ParseFault}
 use Rattle.sql_parse.specs.declared.faults.ParseFault.TheVariants as fault
 use Rattle.sql_parse.specs.Viable.{CanBe}
-use Rattle.sql_parse.specs.Reading.{kinds, IsWide, FirstFault, Refuses, AnswersOnly, Answers, fault_of}
+use Rattle.sql_parse.specs.Reader.{Answers, fault_of}
+use Rattle.sql_parse.specs.Reading.{kinds, IsWide, FirstFault, Refuses, Fails}
 use Rattle.sql_parse.proofs.Runs.{runs, runs_last, Tells}
 
 pub kinds_more : (ps : List Placed) (i : ℕ) (d : Placed) → i < length ps → kinds (take (i + 1) ps) ≡ kinds (take i ps) ++ (get_or ps i d).token ∷ []
@@ -31,20 +33,27 @@ small_places (at ∷ places) most h small = (omega (arith, small.0), small_place
 
 -- ---- the one answer
 
-no_text : {X : Type 0} {IsWhole : List Token → X → Type 0} (ps : List Placed) (at : ℕ) (w : Bool) → FirstFault IsWhole ps at w → (a : X) → IsWhole (kinds ps) a → ⊥
+pub no_text : {X : Type 0} {IsWhole : List Token → X → Type 0} (ps : List Placed) (at : ℕ) (w : Bool) → FirstFault IsWhole ps at w → (a : X) → IsWhole (kinds ps) a → ⊥
 no_text ps at w f a text =
     let x : Placed = record { at = at; token = f.token } in
     let parts : kinds ps ≡ (kinds f.front ++ f.token ∷ []) ++ kinds f.back = ap kinds f.parts ∙ map-append (λ p. p.token) f.front (x ∷ f.back) ∙ sym (append_assoc (kinds f.front) (f.token ∷ []) (kinds f.back)) in
     f.with_it (record { more = kinds f.back; tree = a; text = rw parts at text })
 
 module _ {X : Type 0} {IsWhole : List Token → X → Type 0} (one_tree : (ts : List Token) (a b : X) → IsWhole ts a → IsWhole ts b → a ≡ b) (deepness : X → ℕ) where
-  pub only : (ps : List Placed) (result : Result X ParseFault) → Answers IsWhole deepness ps result → AnswersOnly IsWhole deepness ps result
+  pub only : (ps : List Placed) (result : Result X ParseFault) → Answers IsWhole deepness ps result →
+      (a : X) → IsWhole (kinds ps) a → deepness a ≤ 64 → MatchResult result (λ b. b ≡ a) (λ f. f ≡ fault.NoMemory)
   only ps (Ok b) given a reads small = one_tree (kinds ps) b a given.0.0 reads
   only ps (Err (fault.Syntax at)) given a reads small = absurd (no_text ps at false given.1 a reads)
   only ps (Err (fault.Wide at)) given a reads small = absurd (no_text ps at true given.1 a reads)
   only ps (Err fault.Deep) given a reads small =
       let same = one_tree (kinds ps) a given.1.0 reads given.1.1 in let deep : 64 < deepness a = rw same given.1.2 in absurd (omega arith)
   only ps (Err fault.NoMemory) given a reads small = refl
+
+-- a fault that was answered is the first of the text
+pub fails : {X : Type 0} (IsWhole : List Token → X → Type 0) (deepness : X → ℕ) (text : List ℕ) (result : Result X ParseFault) → Answers IsWhole deepness (lexed 0 0 text) result →
+    IfErr result (λ f. f ≢ fault.NoMemory → Fails IsWhole deepness text f)
+fails IsWhole deepness text (Ok a) given = tt
+fails IsWhole deepness text (Err f) given = λ n. (n, given.1)
 
 -- ---- the loop over the tokens
 
@@ -56,7 +65,7 @@ module _ {S X : Type 0} {IsWhole : List Token → X → Type 0} {step : S → To
   none_fits ts r e h w = tells.cannot (ts ++ t.Int 0 ∷ []) (runs_last step (Some start) ts (t.Int 0) r e ∙ tells.no_number r h) w
 
   -- a token that can't be gone through
-  told : (ps front back : List Placed) (at : ℕ) (x : Token) (r : S) → ps ≡ front ++ record { at = at; token = x } ∷ back → runs step (Some start) (kinds front) ≡ Some r →
+  pub told : (ps front back : List Placed) (at : ℕ) (x : Token) (r : S) → ps ≡ front ++ record { at = at; token = x } ∷ back → runs step (Some start) (kinds front) ≡ Some r →
       step r x ≡ None → (b : Bool) → takes r ≡ b → Refuses IsWhole deepness ps (fault_of b x at)
   told ps front back at x r parts e n b is = by_token x parts n b is
     where

@@ -1,5 +1,5 @@
--- What is answered to a text.
-use Rattle.std.specs.Prelude.{◌≡◌, ◌≤◌, ◌<◌, ℕ, List, [], ◌∷◌, ◌++◌, map, max, Bool, true, false, Option, Some, None, ◌≢◌, Result, Ok, Err, MatchResult, IfOk, IfErr}
+-- What a text reads as, and its first fault. Layers above cite these.
+use Rattle.std.specs.Prelude.{◌≡◌, ◌≤◌, ◌<◌, ℕ, List, [], ◌∷◌, ◌++◌, map, max, Bool, true, false, Option, Some, None, ◌≢◌, Result, MatchResult}
 use Rattle.sql_base.specs.Tree.{depth, deepest, deepest_of}
 use Rattle.sql_base.specs.declared.exprs.Expr.{Expr}
 use Rattle.sql_base.specs.declared.stmts.Stmt.{Stmt}
@@ -10,16 +10,10 @@ use Rattle.sql_text.specs.declared.tokens.Placed.{Placed}
 use Rattle.sql_text.specs.declared.tokens.Token.{Token}
 use Rattle.sql_text.specs.declared.tokens.Token.TheVariants as t
 use Rattle.sql_text.specs.Laws.{HasText}
+use Rattle.sql_text.specs.Lexing.{lexed, tokens_of}
 use Rattle.sql_text.specs.Printing.{spelled}
 use Rattle.sql_parse.specs.declared.faults.ParseFault.{ParseFault}
 use Rattle.sql_parse.specs.declared.faults.ParseFault.TheVariants as fault
-use Rattle.sql_parse.specs.declared.machine.Part.{Part}
-use Rattle.sql_parse.specs.declared.machine.Part.TheVariants.{Whole, Deep}
-use Rattle.sql_parse.specs.declared.machine.State.{State}
-use Rattle.sql_parse.specs.declared.machine.State.TheVariants as q
-use Rattle.sql_parse.specs.declared.stages.SelectStage.TheVariants as r
-use Rattle.sql_parse.specs.declared.stages.Stage.{Stage}
-use Rattle.sql_parse.specs.declared.stages.Stage.TheVariants as g
 use Rattle.sql_parse.specs.Viable.{CanBe}
 
 -- the tokens without their places
@@ -47,7 +41,7 @@ stmt_depth (stmt.Delete table filter) = filter_depth filter
 stmt_depth (stmt.Query table list filter) = max (items_depth list) (filter_depth filter)
 stmt_depth (stmt.SetPath names) = 0
 
--- ---- answers, for texts of any kind: which tokens are a whole text of which tree, and how deep that is
+-- ---- faults, for texts of any kind: which tokens are a whole text of which tree, and how deep that is
 
 -- A number stands behind these tokens, and a smaller one would fit there.
 abbrev pub IsWide : {X : Type 0} → (List Token → X → Type 0) → List Token → Token → Type 0
@@ -64,56 +58,29 @@ pub record FirstFault {X : Type 0} (IsWhole : List Token → X → Type 0) (text
   pub is_wide : wide ≡ true → IsWide IsWhole (kinds front) token
   pub not_wide : wide ≡ false → IsWide IsWhole (kinds front) token → ⊥
 
--- When each fault is answered to a text of these tokens.
+-- When each fault is that of a text of these tokens.
 abbrev pub Refuses : {X : Type 0} → (List Token → X → Type 0) → (X → ℕ) → List Placed → ParseFault → Type 0
 Refuses IsWhole deepness text (fault.Syntax at) = FirstFault IsWhole text at false
 Refuses IsWhole deepness text (fault.Wide at) = FirstFault IsWhole text at true
 Refuses {X} IsWhole deepness text fault.Deep = (a : X) × IsWhole (kinds text) a × (64 < deepness a)
 Refuses IsWhole deepness text fault.NoMemory = Unit {0}
 
--- A tree that is answered is the text's, and not too deep; a fault has its cause.
-abbrev pub Answers : {X : Type 0} → (List Token → X → Type 0) → (X → ℕ) → List Placed → Result X ParseFault → Type 0
-Answers IsWhole deepness text result = IfOk result (λ a. IsWhole (kinds text) a × (deepness a ≤ 64)) × IfErr result (λ f. Refuses IsWhole deepness text f)
+-- ---- texts of bytes
 
--- Where the text has a tree that isn't too deep, this is the answer, or want of memory.
-abbrev pub AnswersOnly : {X : Type 0} → (List Token → X → Type 0) → (X → ℕ) → List Placed → Result X ParseFault → Type 0
-AnswersOnly {X} IsWhole deepness text result = (a : X) → IsWhole (kinds text) a → deepness a ≤ 64 → MatchResult result (λ b. b ≡ a) (λ f. f ≡ fault.NoMemory)
+-- The text reads as this tree, which isn't too deep.
+abbrev pub ReadsAs : {X : Type 0} → (List Token → X → Type 0) → (X → ℕ) → List ℕ → X → Type 0
+ReadsAs IsWhole deepness text a = IsWhole (tokens_of text) a × (deepness a ≤ 64)
+
+-- The text has this first fault. Want of memory is no fault of a text.
+abbrev pub Fails : {X : Type 0} → (List Token → X → Type 0) → (X → ℕ) → List ℕ → ParseFault → Type 0
+Fails IsWhole deepness text f = (f ≢ fault.NoMemory) × Refuses IsWhole deepness (lexed 0 0 text) f
+
+-- ---- answers
+
+-- Where the text reads as a tree, this is the answer, or want of memory.
+abbrev pub AnswersOnly : {X : Type 0} → (List Token → X → Type 0) → (X → ℕ) → List ℕ → Result X ParseFault → Type 0
+AnswersOnly {X} IsWhole deepness text result = (a : X) → ReadsAs IsWhole deepness text a → MatchResult result (λ b. b ≡ a) (λ f. f ≡ fault.NoMemory)
 
 -- Where the text is the canonical text of a tree that isn't too deep, this is the answer, or want of memory.
 abbrev pub ReadsAgain : List ℕ → Result Expr ParseFault → Type 0
 ReadsAgain text result = (a : Expr) → HasText a → depth a ≤ 64 → text ≡ spelled a → MatchResult result (λ b. b ≡ a) (λ f. f ≡ fault.NoMemory)
-
--- whether a number may come next, in an expression and in a statement
-abbrev pub takes_number : State → Bool
-takes_number (q.Want st) = true
-takes_number (q.Minus st) = true
-takes_number _ = false
-
-abbrev pub takes_number_there : Stage → Bool
-takes_number_there (g.In place state) = takes_number state
-takes_number_there (g.Select r.Word) = true
-takes_number_there _ = false
-
--- the fault of a token that can't be gone through: where a number may come, and where none may
-abbrev pub fault_of : Bool → Token → ℕ → ParseFault
-fault_of true (t.Int n) at = fault.Wide at
-fault_of _ _ at = fault.Syntax at
-
--- These tokens end in the end.
-abbrev pub IsEnded : List Token → Type 0
-IsEnded tokens = (front : List Token) × (tokens ≡ front ++ t.End ∷ [])
-
--- One token more is gone through, or refused with its fault: by the step of a machine that takes a number or doesn't.
-abbrev pub Advances : {S : Type 0} → (S → Token → Option S) → Bool → S → Placed → Result S ParseFault → Type 0
-Advances step takes state placed result =
-    MatchResult result (λ next. step state placed.token ≡ Some next)
-    (λ f. f ≢ fault.NoMemory → (step state placed.token ≡ None) × (f ≡ fault_of takes placed.token placed.at))
-
--- the tree of a part, or that it was given up; and of a statement
-abbrev pub IsTreeOf : Part → Result Expr ParseFault → Type 0
-IsTreeOf (Whole a d) result = result ≡ Ok a
-IsTreeOf Deep result = result ≡ Err fault.Deep
-
-abbrev pub IsStmtOf : Option Stmt → Result Stmt ParseFault → Type 0
-IsStmtOf (Some a) result = result ≡ Ok a
-IsStmtOf None result = result ≡ Err fault.Deep

@@ -1,12 +1,12 @@
 //! Texts of expressions, read to their trees.
 
-ghost use Rattle.std.specs.Prelude.{◌≡◌, ◌≤◌, ◌<◌, ◌^◌, map, length, IfOk, IfErr};
+ghost use Rattle.std.specs.Prelude.{◌≡◌, ◌≢◌, ◌≤◌, ◌<◌, ◌^◌, map, length, IfOk, IfErr};
 ghost use Rattle.std.specs.List.{AllByRecursion};
 ghost use Rattle.sql_base.specs.Tree.{depth};
 ghost use Rattle.sql_text.specs.Laws.{HasText};
-ghost use Rattle.sql_text.specs.Lexing.{lexed, tokens_of};
 ghost use Rattle.sql_parse.specs.Grammar.{IsText};
 ghost use Rattle.sql_parse.specs.Machine as machine;
+ghost use Rattle.sql_parse.specs.Reader as reader;
 ghost use Rattle.sql_parse.specs.Reading as spec;
 
 use crate::faults::ParseFault;
@@ -19,7 +19,7 @@ use std::alloc::Global;
 
 /// Whether a number may come next.
 pub fn takes_number(state: &State) -> bool
-    ensures { result ≡ spec.takes_number state.now }
+    ensures { result ≡ reader.takes_number state.now }
 {
     match state {
         State::Want(_) | State::Minus(_) => true,
@@ -30,7 +30,7 @@ pub fn takes_number(state: &State) -> bool
 /// The fault of a token that can't be gone through, where a number may come or none may.
 pub fn fault_of(takes_number: bool, placed: &Placed) -> ParseFault
     requires { placed.now.at < 2 ^ 32 }
-    ensures { result ≡ spec.fault_of takes_number placed.now.token placed.now.at }
+    ensures { result ≡ reader.fault_of takes_number placed.now.token placed.now.at }
 {
     let at = placed.at as u32;
     match placed.token {
@@ -42,7 +42,7 @@ pub fn fault_of(takes_number: bool, placed: &Placed) -> ParseFault
 // The state after a token.
 fn advanced(alloc: Global, state: State, placed: &Placed) -> Result<State, ParseFault>
     requires { placed.now.at < 2 ^ 32 }
-    ensures { spec.Advances (machine.step 64) (spec.takes_number state) state placed.now result }
+    ensures { reader.Advances (machine.step 64) (reader.takes_number state) state placed.now result }
 {
     let fault = fault_of(takes_number(&state), placed);
     match step(alloc, state, &placed.token)? {
@@ -53,7 +53,7 @@ fn advanced(alloc: Global, state: State, placed: &Placed) -> Result<State, Parse
 
 // The tree that was built, or that it was given up.
 fn tree_of(part: Part) -> Result<Expr, ParseFault>
-    ensures { spec.IsTreeOf part result }
+    ensures { reader.IsTreeOf part result }
 {
     match part {
         Part::Whole(tree, _) => Ok(tree),
@@ -62,9 +62,9 @@ fn tree_of(part: Part) -> Result<Expr, ParseFault>
 }
 
 fn read_tokens(alloc: Global, tokens: &[Placed]) -> Result<Expr, ParseFault>
-    requires ended { spec.IsEnded (spec.kinds tokens.now) }
+    requires ended { reader.IsEnded (spec.kinds tokens.now) }
     requires places { AllByRecursion (λ at. at ≤ 65536) (map (λ p. p.at) tokens.now) }
-    ensures { spec.Answers IsText depth tokens.now result }
+    ensures { reader.Answers IsText depth tokens.now result }
 {
     let mut state = State::Want(Stack::new(alloc));
     for placed in tokens {
@@ -83,15 +83,15 @@ fn read_tokens(alloc: Global, tokens: &[Placed]) -> Result<Expr, ParseFault>
 pub fn parse_expr(alloc: Global, text: &[u8]) -> Result<Expr, ParseFault>
     requires { length text.now ≤ 65536 }
     // What is read is a text of the tree, and not too deep.
-    ensures found { IfOk result (λ a. IsText (tokens_of text.now) a × depth a ≤ 64) }
+    ensures found { IfOk result (λ a. spec.ReadsAs IsText depth text.now a) }
     // A text that reads is read, to its tree, unless memory runs out.
-    ensures only { spec.AnswersOnly IsText depth (lexed 0 0 text.now) result }
+    ensures only { spec.AnswersOnly IsText depth text.now result }
     // The tree has a canonical text.
     ensures text { IfOk result (λ a. HasText a) }
     // The canonical text of a tree is read as that tree.
     ensures again { spec.ReadsAgain text.now result }
-    // When each fault comes.
-    ensures fault { IfErr result (λ f. spec.Refuses IsText depth (lexed 0 0 text.now) f) }
+    // A fault is the first of the text.
+    ensures fault { IfErr result (λ f. f ≢ ParseFault.NoMemory → spec.Fails IsText depth text.now f) }
 {
     tokens_end();
     places_are_inside();

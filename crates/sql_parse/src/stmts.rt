@@ -1,9 +1,9 @@
 //! Texts of statements, read to their trees.
 
-ghost use Rattle.std.specs.Prelude.{◌≡◌, ◌≤◌, ◌<◌, ◌^◌, map, length, IfOk, IfErr};
+ghost use Rattle.std.specs.Prelude.{◌≡◌, ◌≢◌, ◌≤◌, ◌<◌, ◌^◌, map, length, IfOk, IfErr};
 ghost use Rattle.std.specs.List.{AllByRecursion};
-ghost use Rattle.sql_text.specs.Lexing.{lexed, tokens_of};
 ghost use Rattle.sql_parse.specs.Grammar.{IsStmt};
+ghost use Rattle.sql_parse.specs.Reader as reader;
 ghost use Rattle.sql_parse.specs.Reading as spec;
 ghost use Rattle.sql_parse.specs.Stages as stages;
 
@@ -17,7 +17,7 @@ use std::alloc::Global;
 
 /// Whether a number may come next.
 fn takes_number_there(stage: &Stage) -> bool
-    ensures { result ≡ spec.takes_number_there stage.now }
+    ensures { result ≡ reader.takes_number_there stage.now }
 {
     match stage {
         Stage::In(_, state) => takes_number(state),
@@ -29,7 +29,7 @@ fn takes_number_there(stage: &Stage) -> bool
 // The stage after a token.
 fn advanced(alloc: Global, stage: Stage, placed: &Placed) -> Result<Stage, ParseFault>
     requires { placed.now.at < 2 ^ 32 }
-    ensures { spec.Advances (stages.stage_step 64) (spec.takes_number_there stage) stage placed.now result }
+    ensures { reader.Advances (stages.stage_step 64) (reader.takes_number_there stage) stage placed.now result }
 {
     let fault = fault_of(takes_number_there(&stage), placed);
     match stage_step(alloc, stage, &placed.token)? {
@@ -40,7 +40,7 @@ fn advanced(alloc: Global, stage: Stage, placed: &Placed) -> Result<Stage, Parse
 
 // The statement that was built, or that a tree in it was given up.
 fn stmt_of(done: Option<Stmt>) -> Result<Stmt, ParseFault>
-    ensures { spec.IsStmtOf done result }
+    ensures { reader.IsStmtOf done result }
 {
     match done {
         Some(stmt) => Ok(stmt),
@@ -49,9 +49,9 @@ fn stmt_of(done: Option<Stmt>) -> Result<Stmt, ParseFault>
 }
 
 fn read_tokens(alloc: Global, tokens: &[Placed]) -> Result<Stmt, ParseFault>
-    requires ended { spec.IsEnded (spec.kinds tokens.now) }
+    requires ended { reader.IsEnded (spec.kinds tokens.now) }
     requires places { AllByRecursion (λ at. at ≤ 65536) (map (λ p. p.at) tokens.now) }
-    ensures { spec.Answers IsStmt spec.stmt_depth tokens.now result }
+    ensures { reader.Answers IsStmt spec.stmt_depth tokens.now result }
 {
     let mut stage = Stage::Begin;
     for placed in tokens {
@@ -70,11 +70,11 @@ fn read_tokens(alloc: Global, tokens: &[Placed]) -> Result<Stmt, ParseFault>
 pub fn parse_stmt(alloc: Global, text: &[u8]) -> Result<Stmt, ParseFault>
     requires { length text.now ≤ 65536 }
     // What is read is a text of the statement, and none of its expressions is too deep.
-    ensures found { IfOk result (λ a. IsStmt (tokens_of text.now) a × spec.stmt_depth a ≤ 64) }
+    ensures found { IfOk result (λ a. spec.ReadsAs IsStmt spec.stmt_depth text.now a) }
     // A text that reads is read, to its statement, unless memory runs out.
-    ensures only { spec.AnswersOnly IsStmt spec.stmt_depth (lexed 0 0 text.now) result }
-    // When each fault comes.
-    ensures fault { IfErr result (λ f. spec.Refuses IsStmt spec.stmt_depth (lexed 0 0 text.now) f) }
+    ensures only { spec.AnswersOnly IsStmt spec.stmt_depth text.now result }
+    // A fault is the first of the text.
+    ensures fault { IfErr result (λ f. f ≢ ParseFault.NoMemory → spec.Fails IsStmt spec.stmt_depth text.now f) }
 {
     tokens_end();
     places_are_inside();

@@ -2,12 +2,13 @@ use Rattle.std.proofs.Common.{◌≡◌, ◌≤◌, ◌∙◌, map, subst, sym, 
 use Rattle.std.specs.List.{AllByRecursion}
 use Rattle.sql_text.specs.declared.tokens.Placed.{Placed}
 use Rattle.sql_text.specs.Lexing.{lexed}
-use Rattle.sql_parse.specs.Reading.{kinds, IsEnded, AnswersOnly, Answers}
+use Rattle.sql_parse.specs.Reader.{Answers, IsEnded}
+use Rattle.sql_parse.specs.Reading.{kinds}
 use Rattle.sql_base.specs.Tree.{depth}
 use Rattle.sql_parse.specs.Grammar.{IsText}
 use Rattle.sql_parse.proofs.Complete.{one_tree}
 use Rattle.sql_parse.proofs.Exprs.{its_text, again}
-use Rattle.sql_parse.proofs.Told.{only, small_places}
+use Rattle.sql_parse.proofs.Told.{fails, only, small_places}
 use Rattle.sql_parse.proofs.parse.parse_expr.Goals as goal
 
 pub read_tokens-requires-clause-ended : goal.read_tokens-requires-clause-ended
@@ -22,10 +23,16 @@ read_tokens-requires-clause-places c =
     subst P (sym is) (small_places (map (λ p. p.at) (lexed 0 0 c.args.text.now)) _ c.requires (c.places_are_inside.ensures c.args.text.now))
 
 pub returns-clause-only : goal.returns-clause-only
-returns-clause-only c =
+returns-clause-only c a reads =
     let is : c.as_slice.result.now ≡ lexed 0 0 c.args.text.now = c.as_slice.ensures ∙ c.in_ok-tokens.ensures in
-    let P : List Placed → Type 0 = λ ps. AnswersOnly IsText depth ps c.read_tokens.result in
-    subst P is (only one_tree depth c.as_slice.result.now c.read_tokens.result c.read_tokens.ensures)
+    let P : List Placed → Type 0 = λ ps. Answers IsText depth ps c.read_tokens.result in
+    only one_tree depth (lexed 0 0 c.args.text.now) c.read_tokens.result (subst P is c.read_tokens.ensures) a reads.0 reads.1
+
+pub returns-clause-fault : goal.returns-clause-fault
+returns-clause-fault c =
+    let is : c.as_slice.result.now ≡ lexed 0 0 c.args.text.now = c.as_slice.ensures ∙ c.in_ok-tokens.ensures in
+    let P : List Placed → Type 0 = λ ps. Answers IsText depth ps c.read_tokens.result in
+    fails IsText depth c.args.text.now c.read_tokens.result (subst P is c.read_tokens.ensures)
 
 pub returns-clause-text : goal.returns-clause-text
 returns-clause-text c =

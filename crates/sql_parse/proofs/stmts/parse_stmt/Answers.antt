@@ -3,9 +3,10 @@ use Rattle.std.specs.List.{AllByRecursion}
 use Rattle.sql_text.specs.declared.tokens.Placed.{Placed}
 use Rattle.sql_text.specs.Lexing.{lexed}
 use Rattle.sql_parse.specs.Grammar.{IsStmt}
-use Rattle.sql_parse.specs.Reading.{kinds, IsEnded, AnswersOnly, stmt_depth}
+use Rattle.sql_parse.specs.Reader.{Answers, IsEnded}
+use Rattle.sql_parse.specs.Reading.{kinds, stmt_depth}
 use Rattle.sql_parse.proofs.Through.{one_statement}
-use Rattle.sql_parse.proofs.Told.{only, small_places}
+use Rattle.sql_parse.proofs.Told.{fails, only, small_places}
 use Rattle.sql_parse.proofs.stmts.parse_stmt.Goals as goal
 
 pub read_tokens-requires-clause-ended : goal.read_tokens-requires-clause-ended
@@ -20,7 +21,13 @@ read_tokens-requires-clause-places c =
     subst P (sym is) (small_places (map (λ p. p.at) (lexed 0 0 c.args.text.now)) _ c.requires (c.places_are_inside.ensures c.args.text.now))
 
 pub returns-clause-only : goal.returns-clause-only
-returns-clause-only c =
+returns-clause-only c a reads =
     let is : c.as_slice.result.now ≡ lexed 0 0 c.args.text.now = c.as_slice.ensures ∙ c.in_ok-tokens.ensures in
-    let P : List Placed → Type 0 = λ ps. AnswersOnly IsStmt stmt_depth ps c.read_tokens.result in
-    subst P is (only one_statement stmt_depth c.as_slice.result.now c.read_tokens.result c.read_tokens.ensures)
+    let P : List Placed → Type 0 = λ ps. Answers IsStmt stmt_depth ps c.read_tokens.result in
+    only one_statement stmt_depth (lexed 0 0 c.args.text.now) c.read_tokens.result (subst P is c.read_tokens.ensures) a reads.0 reads.1
+
+pub returns-clause-fault : goal.returns-clause-fault
+returns-clause-fault c =
+    let is : c.as_slice.result.now ≡ lexed 0 0 c.args.text.now = c.as_slice.ensures ∙ c.in_ok-tokens.ensures in
+    let P : List Placed → Type 0 = λ ps. Answers IsStmt stmt_depth ps c.read_tokens.result in
+    fails IsStmt stmt_depth c.args.text.now c.read_tokens.result (subst P is c.read_tokens.ensures)

@@ -1,7 +1,0 @@
-use Rattle.std.proofs.Common.{◌≡◌, ◌++◌, drop}
-use Rattle.std.specs.List.{flat_map}
-use Rattle.roll_core.specs.Lines.{row_text}
-use Rattle.pgroll_top.proofs.report.push_rows.Given as goal
-
-abbrev pub invariant-loop-row : goal.invariant-loop-row
-invariant-loop-row l = l.out.items ++ flat_map row_text (drop l.row-index l.rows) ≡ l.fn.out.items ++ flat_map row_text l.rows
