@@ -1,3 +1,5 @@
+pub mod Changing
 pub mod Engine
+pub mod Running
 pub mod Seen
 pub mod Store

@@ -35,7 +35,8 @@ impl Copying for Form {
     }
 }
 
-fn copied(alloc: Global, values: &[Value]) -> Result<List<Value>, NoMemory>
+/// These values once more. An error is want of memory.
+pub fn copied(alloc: Global, values: &[Value]) -> Result<List<Value>, NoMemory>
     ensures { IfOk result (λ copy. copy ≡ values.now) }
 {
     trigger_pair::parts::with_all(alloc, List::new(alloc), values)

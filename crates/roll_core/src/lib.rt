@@ -5,9 +5,11 @@
 //! state, and what is stored of a row that is written.
 #![tactic(auto)]
 
+mod changing;
 mod commands;
 mod engine;
 mod forms;
+mod statement;
 mod store;
 
 pub use commands::Cmd;
