@@ -1,6 +1,11 @@
 -- What the engine's own steps are promised, of the frame and the tables alone, and how they answer.
-use Rattle.std.specs.Prelude.{◌≡◌, ℕ, List, Some, Result, Ok, Err, map}
+use Rattle.std.specs.Prelude.{◌≡◌, ℕ, ◌+◌, Bool, false, List, Some, Result, Ok, Err, None, Option, if◌then◌else◌, length, map, nat_lt, slice_get, sum_by}
+use Rattle.std.specs.Option.{option_map, option_or}
+use Rattle.row_rules.specs.Changes.{refused_together}
 use Rattle.std.specs.List.{AllByRecursion}
+use Rattle.row_rules.specs.declared.kinds.Change.{Change}
+use Rattle.row_rules.specs.declared.kinds.Job.{Job}
+use Rattle.row_rules.specs.declared.kinds.Job.TheVariants as job
 use Rattle.row_rules.specs.declared.stops.Stop.{Stop}
 use Rattle.row_rules.specs.declared.stops.Stop.TheVariants.{Because, NoMemory}
 use Rattle.row_rules.specs.Site.{Site, shape_of}
@@ -13,12 +18,13 @@ use Rattle.machine.specs.Done.{Done, Outcome}
 use Rattle.machine.specs.Standing.{IsState}
 use Rattle.machine.specs.Sites.{TableStands}
 use Rattle.machine.specs.State.{Found, Shared, lost_columns_of, shared, site_of, table_on}
+use Rattle.machine.specs.Statement.{error_reply, max_rows, too_many_rows}
 use Rattle.machine.specs.Words.{Old}
 use Rattle.trigger_pair.specs.declared.pairs.Pair.{Pair}
 use Rattle.trigger_pair.specs.Laws.{IsPair}
 use Rattle.roll_core.specs.declared.forms.Form.{Form}
 use Rattle.roll_core.specs.declared.forms.Form.TheVariants.{Own, Paired, Left, Trimmed}
-use Rattle.roll_core.specs.Store.{IsStoredRow, StoredTable, lost_columns_by, pair_over, table_meant}
+use Rattle.roll_core.specs.Store.{IsStoredRow, StoredTable, lost_columns_by, pair_over, rows_meant, table_meant}
 
 -- The state that a frame and tables mean.
 abbrev pub meant : State → List StoredTable → State
@@ -74,3 +80,26 @@ Comes frame old outcome (Err NoMemory) new = new ≡ old
 -- The site is that of a table of the frame which stands.
 abbrev pub IsSite : State → Site → Type 0
 IsSite frame site = (found : Found) × (site ≡ site_of frame found) × TableStands frame found
+
+-- ---- the number of rows
+
+abbrev pub stored_count : List StoredTable → ℕ
+stored_count tables = sum_by (λ table. length table.rows) tables
+
+-- Whether there would be more rows than there may be. Only new rows are more than there were.
+abbrev pub too_many : List StoredTable → Job → List Change → Bool
+too_many tables (job.Put rows) all = nat_lt max_rows (stored_count tables + length all)
+too_many tables (job.Alter sets condition) all = false
+too_many tables (job.Remove condition) all = false
+too_many tables job.Fill all = false
+
+-- Why the changes of the table at a place aren't accepted together, where there is such a table.
+abbrev pub refused_all : List StoredTable → ℕ → Site → Job → List Change → Option (Option Reply)
+refused_all tables at site what all =
+    option_map (λ table. option_or (option_map error_reply (refused_together site what (rows_meant table) all))
+    (if too_many tables what all then Some too_many_rows else None)) (slice_get tables at)
+
+-- A statement's job, and not a batch's.
+abbrev pub IsStatement : Job → Type 0
+IsStatement job.Fill = ⊥
+IsStatement _ = Unit {0}

@@ -11,6 +11,7 @@ mod engine;
 mod forms;
 mod statement;
 mod store;
+mod writing;
 
 pub use commands::Cmd;
 pub use engine::Core;
