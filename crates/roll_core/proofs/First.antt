@@ -13,6 +13,8 @@ use Rattle.roll_core.specs.Store as store
 use Rattle.roll_core.specs.Store.{IsStored, StoredRow, Stored, meaning}
 use Rattle.row_store.specs.Stored.{Rows}
 use Rattle.roll_core.proofs.Made.{changes_placed as cited_made}
+use Rattle.roll_core.proofs.Begun.{begun-meant as cited_begun}
+use Rattle.roll_core.proofs.Runs.{runs_of as cited_runs}
 use Rattle.roll_core.proofs.Counted.{new_count as cited_counted}
 use Rattle.roll_core.proofs.Fitting.{storable as cited_fitting}
 use Rattle.roll_core.proofs.Changed.{changes_meant as cited_changed}

