@@ -1,14 +1,13 @@
 -- The begin of a statement over a frame is that over the state that it means.
-use Rattle.std.proofs.Common.{◌≡◌, ◌∙◌, ℕ, List, [], ◌∷◌, Option, Some, None, Result, Ok, Err, ap, refl, sym, subst}
+use Rattle.std.proofs.Common.{◌≡◌, ◌∙◌, ℕ, List, [], ◌∷◌, Option, Result, Ok, ap, refl, sym}
 use Rattle.std.specs.Option.{ok_or, option_map, option_or}
-use Rattle.sql_base.specs.Laws.{and_then_ok, ok_same}
 use Rattle.sql_base.specs.Outcome.{and_then}
 use Rattle.sql_base.specs.declared.exprs.Expr.{Expr}
 use Rattle.sql_base.specs.declared.stmts.Items.{Items}
 use Rattle.sql_base.specs.declared.stmts.Stmt.{Stmt}
 use Rattle.sql_base.specs.declared.stmts.Stmt.TheVariants.{Insert, Update, Delete, Query, SetPath}
 use Rattle.row_rules.specs.declared.kinds.Job.{Job}
-use Rattle.row_rules.specs.Outcome.{guarded, map_fault}
+use Rattle.row_rules.specs.Outcome.{guarded}
 use Rattle.row_rules.specs.Settle.{delete_job, insert_job, query_error, update_job}
 use Rattle.row_rules.specs.Site.{Site, number_of, shape_of}
 use Rattle.machine.specs.declared.events.Reply.{Reply}
@@ -16,7 +15,7 @@ use Rattle.machine.specs.declared.states.State.{State}
 use Rattle.machine.specs.Laws.{ShowsStand, WritesStand}
 use Rattle.machine.specs.Sites.{JobStands, TableStands}
 use Rattle.machine.specs.State.{Found, site_of, table_of, table_on, table_through}
-use Rattle.machine.specs.Statement.{Begun, Sets, Shows, Writes, begun, error_reply, long_insert, no_table, on_table, writes}
+use Rattle.machine.specs.Statement.{Begun, Shows, Writes, begun, error_reply, long_insert, no_table, on_table, writes}
 use Rattle.machine.specs.Words.{New, Old, Side}
 use Rattle.roll_core.specs.Running.{IsSite, Runs, meant}
 use Rattle.roll_core.specs.Store.{StoredTable}

@@ -15,8 +15,7 @@ use Rattle.row_rules.specs.declared.kinds.Halves.{Halves}
 use Rattle.row_rules.specs.declared.kinds.Kept.{Kept}
 use Rattle.row_rules.specs.Site.{Beside, number_of, shape_of}
 use Rattle.row_store.specs.Stored.{Rows}
-use Rattle.machine.specs.declared.states.Mode.{Mode}
-use Rattle.machine.specs.declared.states.Mode.TheVariants.{Calm, Both}
+use Rattle.machine.specs.declared.states.Mode.TheVariants.{Calm}
 use Rattle.machine.specs.declared.states.State.{State}
 use Rattle.machine.specs.Sites.{HalvesAgree, PairStands, SiteRow, TableStands, may_miss_beside, new_table_by, table_by}
 use Rattle.machine.specs.Standing.{HalfStands, NewStands}
@@ -26,10 +25,10 @@ use Rattle.phase_steps.specs.Laws.{FilledBefore}
 use Rattle.trigger_pair.specs.declared.pairs.Pair.{Pair}
 use Rattle.roll_core.specs.declared.forms.Form.{Form}
 use Rattle.roll_core.specs.declared.forms.Form.TheVariants.{Own, Paired, Left, Trimmed}
-use Rattle.roll_core.specs.Running.{FormSuits, LeftBy, PairedBy}
+use Rattle.roll_core.specs.Running.{FormSuits, LeftBy}
 use Rattle.roll_core.specs.Store.{IsStoredRow, StoredRow, kept, lost_columns_by, pair_over}
 use Rattle.roll_core.proofs.Made.{HasNew}
-use Rattle.roll_core.proofs.Storing.{Alone, AloneFits, FormStands, Storable, Together, lost_over}
+use Rattle.roll_core.proofs.Storing.{AloneFits, FormStands, Storable, Together, lost_over}
 
 -- ---- what is stored under a key
 

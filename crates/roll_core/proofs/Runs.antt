@@ -1,11 +1,9 @@
 -- What an engine stores is what its steps are promised.
-use Rattle.std.proofs.Common.{arith, ◌≡◌, ◌≤◌, ◌∙◌, ℕ, List, [], ◌∷◌, Bool, true, false, ◌||◌, ◌==◌, Option, Some, None, if◌then◌else◌, find, is_some, nat_eq, ap, refl, sym, subst, map, option_map, option_and_then}
+use Rattle.std.proofs.Common.{arith, ◌≡◌, ◌∙◌, ℕ, List, [], ◌∷◌, Bool, true, false, ◌||◌, ◌==◌, Option, Some, None, if◌then◌else◌, is_some, nat_eq, ap, refl, sym, subst, option_map, option_and_then}
 use Rattle.std.specs.List.{AllByRecursion as Each, list_all, list_any}
-use Rattle.std.specs.Option.{option_map_or}
 use Rattle.std.proofs.lemmas.Bool.Decides.{nat_tests}
 use Rattle.sql_base.specs.Laws.{both as both_true, some_same}
 use Rattle.sql_base.specs.declared.shapes.Schema.{Schema}
-use Rattle.sql_eval.specs.Shape.{WellFormed}
 use Rattle.mig_lens.specs.declared.columns.Lens.{Lens}
 use Rattle.mig_lens.specs.declared.plans.Fate.{Fate}
 use Rattle.mig_lens.specs.Laws.{IsSchema, Joins}
@@ -16,7 +14,7 @@ use Rattle.machine.specs.declared.states.Mode.{Mode}
 use Rattle.machine.specs.declared.states.Mode.TheVariants.{Calm, Both}
 use Rattle.machine.specs.declared.states.State.{State}
 use Rattle.machine.specs.Migrate.{numbers_of}
-use Rattle.machine.specs.Standing.{IsState, ModeStands, NewerStands, all_known}
+use Rattle.machine.specs.Standing.{IsState, ModeStands, NewerStands}
 use Rattle.machine.specs.State.{Shared, lens_among, lens_between, lost_columns_of, newer_schema, shared, table_on}
 use Rattle.machine.specs.Words.{New, Old}
 use Rattle.trigger_pair.specs.declared.pairs.Pair.{Pair}
@@ -24,8 +22,8 @@ use Rattle.trigger_pair.specs.Laws.{IsPair}
 use Rattle.roll_core.specs.declared.forms.Form.{Form}
 use Rattle.roll_core.specs.declared.forms.Form.TheVariants.{Own, Paired, Left, Trimmed}
 use Rattle.roll_core.specs.declared.store.Former.{Former}
-use Rattle.roll_core.specs.Running.{FormSuits, LeftBy, PairedBy, Runs, RowsStored, meant, numbers_in}
-use Rattle.roll_core.specs.Store.{FormerStands, HasFormer, IsStored, IsStoredTable, Stored, StoredTable, both_again, calm_form, form_in, former_pair, lost_columns_by, over_pair, pair_over}
+use Rattle.roll_core.specs.Running.{FormSuits, LeftBy, Runs, RowsStored, meant, numbers_in}
+use Rattle.roll_core.specs.Store.{FormerStands, HasFormer, IsStored, IsStoredTable, Stored, StoredTable, both_again, calm_form, former_pair, lost_columns_by, over_pair, pair_over}
 use Rattle.roll_core.proofs.Tables.{numbers_of-meant}
 
 -- ---- what two versions have of a table

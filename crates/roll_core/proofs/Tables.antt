@@ -1,5 +1,5 @@
 -- Stored tables, and the tables of the state that they mean.
-use Rattle.std.proofs.Common.{arith, Result, Ok, Err, OnErr, ◌+◌, ◌≡◌, ◌≤◌, ◌<◌, ◌==◌, ◌∙◌, ℕ, zero, suc, List, [], ◌∷◌, Bool, true, false, ◌&&◌, ◌||◌, Option, Some, None, find, if◌then◌else◌, length, map, nat_eq, ap, refl, sym, subst, option_map, option_and_then, le_of_eq, le_of_lt, lt_of_le_of_lt}
+use Rattle.std.proofs.Common.{arith, Result, Ok, Err, OnErr, ◌+◌, ◌≡◌, ◌≤◌, ◌<◌, ◌==◌, ◌∙◌, ℕ, zero, suc, List, [], ◌∷◌, Bool, true, false, Option, Some, find, if◌then◌else◌, length, map, nat_eq, ap, refl, sym, subst, option_map, option_and_then, le_of_eq}
 use Rattle.std.specs.Prelude.{slice_get, slice_index_or, slice_set, sum_by}
 use Rattle.std.specs.List.{AllByRecursion, list_all, list_any}
 use Rattle.std.specs.Option.{option_map_or}
@@ -9,7 +9,6 @@ use Rattle.std.proofs.lemmas.List.{length-map}
 use Rattle.std.proofs.lemmas.List.Sums.{sum_by-cons}
 use Rattle.row_rules.specs.declared.kinds.Change.{Change}
 use Rattle.sql_base.specs.Laws.{both, some_same}
-use Rattle.sql_base.specs.declared.shapes.Schema.{Schema}
 use Rattle.mig_lens.specs.Plan.{Table, table_numbered}
 use Rattle.row_rules.specs.declared.kinds.Kept.{Kept}
 use Rattle.row_rules.specs.Site.{Site, number_of}
@@ -17,9 +16,8 @@ use Rattle.machine.specs.declared.states.Mode.{Mode}
 use Rattle.machine.specs.declared.states.Mode.TheVariants.{Calm, Both}
 use Rattle.machine.specs.declared.states.State.{State}
 use Rattle.machine.specs.Migrate.{numbers_of}
-use Rattle.machine.specs.Sites.{TableStands}
-use Rattle.machine.specs.Standing.{IsState, ModeStands, NumbersAscend, has_all}
-use Rattle.machine.specs.State.{Found, newer_schema, row_count, rows_of, site_of, table_on, with_rows}
+use Rattle.machine.specs.Standing.{IsState, ModeStands, NumbersAscend}
+use Rattle.machine.specs.State.{newer_schema, row_count, rows_of, table_on, with_rows}
 use Rattle.machine.specs.Words.{New, Old, Side}
 use Rattle.roll_core.specs.declared.store.StoredTable.{StoredTable as OwnTable}
 use Rattle.roll_core.specs.Running.{IsSite, Runs, meant, numbers_in, stored_count}

@@ -1,5 +1,5 @@
 -- What the engine's own steps are promised, of the frame and the tables alone, and how they answer.
-use Rattle.std.specs.Prelude.{◌≡◌, ℕ, ◌+◌, Bool, false, List, Some, Result, Ok, Err, None, Option, if◌then◌else◌, length, map, nat_lt, sum_by}
+use Rattle.std.specs.Prelude.{◌≡◌, ℕ, ◌+◌, Bool, true, false, List, Some, Result, Ok, Err, None, Option, if◌then◌else◌, length, map, nat_lt, sum_by}
 use Rattle.std.specs.Option.{option_map, option_or}
 use Rattle.row_rules.specs.Changes.{refused_together}
 use Rattle.std.specs.List.{AllByRecursion}
@@ -14,11 +14,11 @@ use Rattle.machine.specs.declared.events.Reply.{Reply}
 use Rattle.machine.specs.declared.states.Mode.TheVariants.{Calm}
 use Rattle.machine.specs.declared.states.State.{State}
 use Rattle.machine.specs.Done.{Done, Outcome}
-
 use Rattle.machine.specs.Standing.{IsState}
+use Rattle.machine.specs.Laws.{leaves_all}
 use Rattle.machine.specs.Sites.{TableStands}
 use Rattle.machine.specs.State.{Found, Shared, lost_columns_of, shared, site_of, table_on}
-use Rattle.machine.specs.Statement.{error_reply, max_rows, too_many_rows}
+use Rattle.machine.specs.Statement.{error_reply, max_rows, no_memory, too_many_rows}
 use Rattle.machine.specs.Words.{Old}
 use Rattle.trigger_pair.specs.declared.pairs.Pair.{Pair}
 use Rattle.trigger_pair.specs.Laws.{IsPair}
@@ -71,9 +71,9 @@ pub record Runs (frame : State) (tables : List StoredTable) : Type 0 where
 abbrev pub SameForms : List StoredTable → List StoredTable → Type 0
 SameForms old new = map {B = ℕ × Form} (λ table. (table.number, table.form)) new ≡ map {B = ℕ × Form} (λ table. (table.number, table.form)) old
 
--- A reply comes with the state afterwards; a refusal, or want of memory, leaves the tables as they were.
+-- A reply comes with the state afterwards; one that only looks, a refusal, or want of memory, leaves the tables as they were.
 abbrev pub Comes : State → List StoredTable → Outcome → Result Reply (Stop Reply) → List StoredTable → Type 0
-Comes frame old outcome (Ok reply) new = (done : Done) × (outcome ≡ Ok done) × (reply ≡ done.reply) × (meant frame new ≡ done.after)
+Comes frame old outcome (Ok reply) new = (done : Done) × (outcome ≡ Ok done) × (reply ≡ done.reply) × (meant frame new ≡ done.after) × (leaves_all reply ≡ true → new ≡ old)
 Comes frame old outcome (Err (Because reply)) new = (outcome ≡ Err reply) × (new ≡ old)
 Comes frame old outcome (Err NoMemory) new = new ≡ old
 
@@ -104,3 +104,9 @@ refused_all table count site what all = option_or (option_map error_reply (refus
 abbrev pub IsStatement : Job → Type 0
 IsStatement job.Fill = ⊥
 IsStatement _ = Unit {0}
+
+-- The reply that an answer is.
+abbrev pub reply_of : Result Reply (Stop Reply) → Reply
+reply_of (Ok reply) = reply
+reply_of (Err (Because reply)) = reply
+reply_of (Err NoMemory) = no_memory

@@ -7,13 +7,16 @@ ghost use Rattle.machine.specs.Follows.{goes_on_filling};
 ghost use Rattle.machine.specs.Laws.{leaves_all};
 ghost use Rattle.machine.specs.Step.{LaneStep, Step};
 ghost use Rattle.roll_core.specs.Engine as engine;
+ghost use Rattle.roll_core.specs.Running as running;
 ghost use Rattle.roll_core.specs.Store.{meaning};
 
 use crate::commands::Cmd;
 use crate::forms::Form;
+use crate::statement::answer;
 use crate::store::{Former, StoredTable};
 use machine::parts::no_memory;
 use machine::{Reply, State, beginning};
+use row_rules::Stop;
 use row_store::RowStore;
 use sql_base::{List, Name, NoMemory, Stmt};
 use std::alloc::Global;
@@ -55,6 +58,17 @@ fn frame_of(alloc: Global, s: State) -> State
     frame
 }
 
+// The reply that an answer is.
+fn replied(answer: Result<Reply, Stop<Reply>>) -> Reply
+    ensures { result ≡ running.reply_of answer }
+{
+    match answer {
+        Ok(reply) => reply,
+        Err(Stop::Because(reply)) => reply,
+        Err(Stop::NoMemory) => no_memory(),
+    }
+}
+
 impl Core {
     /// The version `01_users` with the one table `users`, which has a bigint key `id` and a text `name`, neither of
     /// which may be NULL. The table has no row. An error is want of memory.
@@ -85,7 +99,9 @@ impl Core {
         ensures step { Step (meaning self.old) (Said path.now (Read stmt.now)) result (meaning self.new) }
         ensures refused { leaves_all result ≡ true → self.new ≡ self.old }
     {
-        no_memory()
+        machine::laws::states_stand();
+        machine::laws::states_stay_lawful();
+        replied(answer(self.alloc, &self.frame, &mut self.tables, path, stmt))
     }
 
     /// A batch of at most so many rows is filled: one step of the machine, and just the one that one lane takes. It takes

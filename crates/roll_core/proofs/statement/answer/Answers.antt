@@ -34,4 +34,4 @@ returns-in-Sets-clause-answers c =
     let tables = map seen c.args.tables.now in
     let s = meant c.args.frame.now tables in
     let is : begun s c.args.path.now c.args.stmt.now ≡ Ok Sets = begun-meant c.args.frame.now tables c.args.path.now c.args.stmt.now ∙ c.in_ok-site.ensures ∙ ap (λ b. Ok (plain.begun b)) c.in-Sets.is in
-    (answered s Set, ap (λ (b : Result Begun Reply). and_then b (finished s)) is, refl, refl)
+    (answered s Set, ap (λ (b : Result Begun Reply). and_then b (finished s)) is, refl, refl, λ h. refl)
