@@ -118,7 +118,7 @@ calm_side : (s : State) → s.mode ≡ Calm → (side : Side) (number : ℕ) (ta
 calm_side s m Old number table e = refl
 calm_side s m New number table e = let none : table_on s New number ≡ None = ap (λ mode. option_and_then (λ schema. table_numbered schema number) (newer_schema mode)) m in cc
 
-calm_shared : (s : State) (number : ℕ) → s.mode ≡ Calm → shared s number ≡ None
+pub calm_shared : (s : State) (number : ℕ) → s.mode ≡ Calm → shared s number ≡ None
 calm_shared s number m = ap (λ mode. option_and_then (λ old. option_and_then (λ new. option_map {U = Shared} (λ lens. record { old = old; new = new; lens = lens }) (lens_between mode number)) (option_and_then (λ schema. table_numbered schema number) (newer_schema mode))) (table_on s Old number)) m ∙ by_table (table_on s Old number)
   where
     by_table : (o : Option Table) → option_and_then {U = Shared} (λ (old : Table). None) o ≡ None
