@@ -1,5 +1,5 @@
 -- What a job changes can be stored.
-use Rattle.std.proofs.Common.{arith, ◌≡◌, ◌∙◌, ◌<◌, ◌+◌, ℕ, zero, suc, ℤ, List, [], ◌∷◌, Bool, true, false, if◌then◌else◌, Option, Some, None, Result, Ok, is_some, length, map, take, ap, refl, sym, subst, option_map}
+use Rattle.std.proofs.Common.{arith, ◌≡◌, ◌∙◌, ◌<◌, ◌+◌, ℕ, zero, suc, ℤ, List, [], ◌∷◌, Bool, true, false, if◌then◌else◌, Option, Some, None, Ok, length, map, ap, refl, sym, subst, option_map}
 use Rattle.std.specs.Prelude.{slice_get, slice_index_or}
 use Rattle.std.specs.FinMap as finite
 use Rattle.std.specs.List.{AllByRecursion as Each}
@@ -10,19 +10,19 @@ use Rattle.sql_base.specs.declared.values.Value.{Value}
 use Rattle.sql_base.specs.declared.values.Value.TheVariants.{Null}
 use Rattle.mig_lens.specs.declared.columns.Cell.{Cell}
 use Rattle.mig_lens.specs.declared.columns.Cell.TheVariants.{Carry, Make, Still}
-use Rattle.mig_lens.specs.Lens.{carries, is_carried_from}
+use Rattle.mig_lens.specs.Lens.{is_carried_from}
 use Rattle.mig_lens.specs.Plan.{Table}
 use Rattle.row_rules.specs.declared.kinds.Change.{Change}
 use Rattle.row_rules.specs.declared.kinds.Change.TheVariants.{Put, Remove}
 use Rattle.row_rules.specs.declared.kinds.Job.{Job}
 use Rattle.row_rules.specs.declared.kinds.Kept.{Kept}
 use Rattle.row_rules.specs.Changes.{changes}
-use Rattle.row_rules.specs.Site.{Beside, Site, number_of, shape_of}
+use Rattle.row_rules.specs.Site.{Site, number_of, shape_of}
 use Rattle.machine.specs.declared.states.Mode.TheVariants.{Calm}
 use Rattle.machine.specs.declared.states.State.{State}
 use Rattle.machine.specs.Laws.{ChangesAgree, ChangesKeep, RowsOnSites, RowsStandBy, SharedStands}
 use Rattle.machine.specs.Sites.{BesideStands, ChangeAgrees, ChangeStands, HalvesAgree, JobStands, OfPut, PairStands, SiteRow, SiteStands, TableStands}
-use Rattle.machine.specs.Standing.{IsState, RowStands, RowsStand}
+use Rattle.machine.specs.Standing.{IsState, RowsStand}
 use Rattle.machine.specs.State.{Found, Shared, beside_on, rows_of, shared, site_of, table_on}
 use Rattle.machine.specs.Words.{New, Old, Side}
 use Rattle.row_store.specs.Stored.{Rows}
@@ -31,10 +31,10 @@ use Rattle.trigger_pair.specs.Laws.{IsPair, PairsAreLong}
 use Rattle.trigger_pair.specs.Stored.{is_marked, new_half, new_view, old_view, places}
 use Rattle.roll_core.specs.declared.forms.Form.{Form}
 use Rattle.roll_core.specs.declared.forms.Form.TheVariants.{Own, Paired, Left, Trimmed}
-use Rattle.roll_core.specs.Running.{FormSuits, meant}
-use Rattle.roll_core.specs.Store.{StoredRow, StoredTable, kept, pair_over}
+use Rattle.roll_core.specs.Running.{FormSuits}
+use Rattle.roll_core.specs.Store.{StoredRow, kept}
 use Rattle.roll_core.proofs.Changed.{Stores}
-use Rattle.roll_core.proofs.Fitting.{AgreesIn, Weighs, calm_shared, form_stands, storable}
+use Rattle.roll_core.proofs.Fitting.{Weighs, calm_shared, form_stands, storable}
 use Rattle.roll_core.proofs.Made.{HasNew, Placed, PutBy, SideOf, changes_placed}
 use Rattle.roll_core.proofs.Storing.{StoringHolds, stores_row}
 
