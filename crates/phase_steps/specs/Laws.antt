@@ -1,19 +1,25 @@
 -- What the version that stands shows of its stored rows while a migration is completed or rolled back.
-use Rattle.std.specs.Prelude.{◌≡◌, ℕ, true, List, Some, filter, length, map}
+use Rattle.std.specs.Prelude.{◌≡◌, ℕ, true, List, [], Option, Some, None, filter, length, map, unwrap_or}
 use Rattle.sql_base.specs.declared.values.Value.{Value}
 use Rattle.sql_base.specs.Fit.{row_fits}
 use Rattle.trigger_pair.specs.declared.pairs.Pair.{Pair}
 use Rattle.trigger_pair.specs.Laws.{IsPair}
 use Rattle.trigger_pair.specs.Rows.{IsFilledRow}
-use Rattle.trigger_pair.specs.Stored.{new_view}
+use Rattle.trigger_pair.specs.Stored.{new_view, old_view}
 use Rattle.phase_steps.specs.Places.{Place, is_among, named, paired_places, value_in}
-use Rattle.phase_steps.specs.Rows.{IsTrimmedRow, leaving_row, restored, trimmed, trimmed_view}
+use Rattle.phase_steps.specs.Rows.{IsTrimmedRow, left_row, left_values, restored, trimmed, trimmed_view}
 
--- A row that is written between C1 and C2 shows the values that were written, and has a value for each place of the layout.
-abbrev pub LeavingRowsShow : Type 0
-LeavingRowsShow =
-    (pair : Pair) (values : List Value) → IsPair pair → row_fits pair.new values ≡ true →
-    (new_view pair (leaving_row pair.lens values) ≡ values) × (length (leaving_row pair.lens values) ≡ length pair.layout.columns)
+-- A row that is written between C1 and C2, over any row or none, shows the values that were written, and has a value for each place of the layout.
+abbrev pub LeftRowsShow : Type 0
+LeftRowsShow =
+    (pair : Pair) (values : List Value) (before : Option (List Value)) → IsPair pair → row_fits pair.new values ≡ true →
+    (new_view pair (left_row pair.lens values before) ≡ values) × (length (left_row pair.lens values before) ≡ length pair.layout.columns)
+
+-- In the old columns it has what is left there: carried values, and what was there before.
+abbrev pub LeftRowsKeep : Type 0
+LeftRowsKeep =
+    (pair : Pair) (values : List Value) (before : Option (List Value)) → IsPair pair →
+    old_view pair (left_row pair.lens values before) ≡ left_values pair.lens.old_cols values (unwrap_or before [])
 
 -- C2 keeps what the new version's view shows, of every row that has a value for each place of the layout.
 abbrev pub TrimmingKeepsView : Type 0
@@ -47,9 +53,15 @@ Selects view places =
     (pair : Pair) (row : List Value) → IsPair pair → length row ≡ length (paired_places pair) →
     view pair row ≡ map (value_in (paired_places pair) row) (places pair)
 
+-- What was stored before, if anything was, is a filled row.
+abbrev pub FilledBefore : Pair → Option (List Value) → Type 0
+FilledBefore pair None = Unit {0}
+FilledBefore pair (Some stored) = IsFilledRow pair stored
+
 -- A row that is written between C1 and C2 is a filled row.
-abbrev pub LeavingRowsAreFilled : Type 0
-LeavingRowsAreFilled = (pair : Pair) (values : List Value) → IsPair pair → row_fits pair.new values ≡ true → IsFilledRow pair (leaving_row pair.lens values)
+abbrev pub LeftRowsAreFilled : Type 0
+LeftRowsAreFilled =
+    (pair : Pair) (values : List Value) (before : Option (List Value)) → IsPair pair → row_fits pair.new values ≡ true → FilledBefore pair before → IsFilledRow pair (left_row pair.lens values before)
 
 -- C2 leaves of a filled row the carried values and the shadow values.
 abbrev pub TrimmingLeavesTrimmed : Type 0

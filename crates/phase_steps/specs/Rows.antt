@@ -1,7 +1,8 @@
 -- What becomes of the stored rows of a table that both versions have, step by step from START until one version stands alone.
 --
 -- A migration begins with START. From then on both versions stand, and a row is stored as the triggers leave it. It is completed in three steps: C1 drops the old version's views, C2 removes the places that only the old version showed, and C3 puts the places in the order of the new version's columns. It is rolled back in two: B1 drops the new version's views, and B2 removes the places that only the new version showed. Between two steps rows are written by the version that stands. That completing removes the old columns, and that rolling back removes the new ones, is pgroll's (its documentation, How pgroll works); the steps and the rest are our own.
-use Rattle.std.specs.Prelude.{ℕ, ◌+◌, Bool, ◌==◌, false, true, List, [], ◌∷◌, ◌++◌, drop, filter, length, map, slice_index_or, take, if◌then◌else◌}
+use Rattle.std.specs.Prelude.{ℕ, ◌+◌, Bool, ◌==◌, false, true, List, [], ◌∷◌, ◌++◌, Option, drop, filter, length, map, slice_index_or, take, unwrap_or, if◌then◌else◌}
+use Rattle.std.specs.List.{enumerate_from}
 use Rattle.sql_base.specs.declared.shapes.Shape.{Shape}
 use Rattle.sql_base.specs.declared.values.Value.{Value}
 use Rattle.sql_base.specs.declared.values.Value.TheVariants.{Null}
@@ -66,15 +67,18 @@ trimmed_view lens row = map (λ at. slice_index_or row at Null) (trimmed_places 
 
 -- ---- a row that is written meanwhile
 
--- An old column that isn't carried has no value in a row that is written after C1.
-abbrev pub leaving_value : List Value → Cell → Value
-leaving_value values (Carry at) = slice_index_or values at Null
-leaving_value values (Make expr) = Null
-leaving_value values (Still value) = Null
+-- What an old column's place holds: a carried one the value that is written, and another one what it held before.
+abbrev pub left_value : List Value → List Value → ℕ × Cell → Value
+left_value values held (at, Carry from) = slice_index_or values from Null
+left_value values held (at, Make expr) = slice_index_or held at Null
+left_value values held (at, Still constant) = slice_index_or held at Null
 
--- The stored row of new values that are written between C1 and C2, where nothing was stored before: NULL in the places that the new version doesn't show, and not marked.
-abbrev pub leaving_row : Lens → List Value → List Value
-leaving_row lens values = map (leaving_value values) lens.old_cols ++ shadow_values lens.new_cols values ++ mark_value (has_mark lens) false
+abbrev pub left_values : List Cell → List Value → List Value → List Value
+left_values cells values held = map (left_value values held) (enumerate_from 0 cells)
+
+-- The stored row of new values that are written between C1 and C2, over the row that was stored, if there was one: an old column that isn't carried keeps the value that it had, or is NULL in a new row. It isn't marked.
+abbrev pub left_row : Lens → List Value → Option (List Value) → List Value
+left_row lens values before = left_values lens.old_cols values (unwrap_or before []) ++ shadow_values lens.new_cols values ++ mark_value (has_mark lens) false
 
 -- ---- the steps
 

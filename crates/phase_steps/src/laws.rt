@@ -1,11 +1,13 @@
 //! The laws of the steps. Each is the contract of a function that does nothing.
-ghost use Rattle.phase_steps.specs.Laws.{CompletedRowsShow, KeepsPlaces, Leaves, LeavingRowsAreFilled, LeavingRowsShow, PlacesAreTheLayouts, Selects, TrimmingKeepsView, TrimmingLeavesTrimmed};
+ghost use Rattle.phase_steps.specs.Laws.{CompletedRowsShow, KeepsPlaces, Leaves, LeftRowsAreFilled, LeftRowsKeep, LeftRowsShow, PlacesAreTheLayouts, Selects, TrimmingKeepsView, TrimmingLeavesTrimmed};
 ghost use Rattle.trigger_pair.specs.Stored.{new_view, old_view};
 ghost use Rattle.phase_steps.specs.Places.{completed_places, paired_places, rolled_back_places, trimmed_row_places};
 
-/// A row that is written between C1 and C2 shows the values that were written, and has a value for each place.
-pub fn leaving_rows_show_what_was_written()
-    ensures { LeavingRowsShow }
+/// A row that is written between C1 and C2 shows the values that were written, and has a value for each place. In an old
+/// column that isn't carried it has what was there before, or NULL.
+pub fn left_rows_show_what_was_written()
+    ensures shown { LeftRowsShow }
+    ensures kept { LeftRowsKeep }
 {
     trigger_pair::laws::pairs_are_long();
     trigger_pair::laws::stored_rows_hold();
@@ -43,10 +45,10 @@ pub fn steps_keep_places()
     trigger_pair::laws::pairs_are_long();
 }
 
-/// A row that is written between C1 and C2 is a filled row. C2 leaves of a filled row the carried values and the shadow
+/// A row that is written between C1 and C2 over a filled row or none is a filled row. C2 leaves of a filled row the carried values and the shadow
 /// values, and nothing else: the lost columns and the mark are gone.
 pub fn rows_are_stored_by_the_step()
-    ensures leaving { LeavingRowsAreFilled }
+    ensures left { LeftRowsAreFilled }
     ensures trimmed { TrimmingLeavesTrimmed }
 {
     trigger_pair::laws::pairs_are_long();

@@ -9,6 +9,6 @@ mod steps;
 mod tests;
 mod trimming;
 
-pub use leaving::leaving_row;
+pub use leaving::left_row;
 pub use steps::restore;
 pub use trimming::{trimmed, trimmed_view};

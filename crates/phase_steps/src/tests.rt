@@ -1,5 +1,5 @@
 //! The life of stored rows, against what the rules say of two migrations.
-use crate::{leaving_row, restore, trimmed, trimmed_view};
+use crate::{left_row, restore, trimmed, trimmed_view};
 use mig_lens::{Cell, Lens, Side, layout};
 use sql_base::{Column, Copying, EvalFault, Expr, List, Name, NoMemory, Shape, SqlText, Ty, Value};
 use std::alloc::Global;
@@ -139,7 +139,7 @@ fn stepped(alloc: Global, pair: &Pair, word: &str, row: &[Value]) -> Result<List
         "B2" => restore(alloc, 5, old, new, lens, row),
         "begun" => begun(alloc, pair, row),
         "trimmed" => trimmed(alloc, lens, row),
-        _ => leaving_row(alloc, lens, row),
+        _ => left_row(alloc, lens, row, None),
     }
 }
 

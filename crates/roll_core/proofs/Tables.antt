@@ -1,21 +1,41 @@
 -- Stored tables, and the tables of the state that they mean.
-use Rattle.std.proofs.Common.{arith, ◌≡◌, ◌≤◌, ◌<◌, ◌==◌, ℕ, zero, suc, List, [], ◌∷◌, length, map, refl, ap, sym, subst, ◌∙◌, Bool, true, false, ◌||◌, Some, find, nat_eq, if◌then◌else◌, le_of_eq, le_of_lt, lt_of_le_of_lt}
-use Rattle.std.specs.Prelude.{slice_get, slice_set, sum_by}
-use Rattle.std.specs.List.{AllByRecursion, list_any}
+use Rattle.std.proofs.Common.{arith, Result, Ok, Err, OnErr, ◌+◌, ◌≡◌, ◌≤◌, ◌<◌, ◌==◌, ◌∙◌, ℕ, zero, suc, List, [], ◌∷◌, Bool, true, false, Option, Some, find, if◌then◌else◌, length, map, nat_eq, ap, refl, sym, subst, option_map, option_and_then, le_of_eq}
+use Rattle.std.specs.Prelude.{slice_get, slice_index_or, slice_set, sum_by}
+use Rattle.std.specs.List.{AllByRecursion, list_all, list_any}
 use Rattle.std.specs.Option.{option_map_or}
+use Rattle.std.specs.FinMap as finite
 use Rattle.std.proofs.lemmas.Bool.Decides.{nat_tests}
 use Rattle.std.proofs.lemmas.List.{length-map}
 use Rattle.std.proofs.lemmas.List.Sums.{sum_by-cons}
-use Rattle.machine.specs.declared.states.Kept.{Kept}
+use Rattle.row_rules.specs.declared.kinds.Change.{Change}
+use Rattle.sql_base.specs.Laws.{both, some_same}
+use Rattle.mig_lens.specs.Plan.{Table, table_numbered}
+use Rattle.row_rules.specs.declared.kinds.Kept.{Kept}
+use Rattle.row_rules.specs.Site.{Site, number_of}
+use Rattle.machine.specs.declared.states.Mode.{Mode}
+use Rattle.machine.specs.declared.states.Mode.TheVariants.{Calm, Both}
 use Rattle.machine.specs.declared.states.State.{State}
 use Rattle.machine.specs.Migrate.{numbers_of}
-use Rattle.machine.specs.Standing.{NumbersAscend}
-use Rattle.machine.specs.State.{row_count, rows_of, with_rows}
-use Rattle.roll_core.specs.declared.phases.Phase.{Phase}
-use Rattle.roll_core.specs.declared.store.StoredTable.{StoredTable}
-use Rattle.roll_core.specs.Store.{kept, meaning, phase_of, rows_meant, stored_count, stored_numbers, table_meant, table_place}
+use Rattle.machine.specs.Standing.{IsState, ModeStands, NumbersAscend}
+use Rattle.machine.specs.State.{newer_schema, row_count, rows_of, table_on, with_rows}
+use Rattle.machine.specs.Words.{New, Old, Side}
+use Rattle.roll_core.specs.declared.store.StoredTable.{StoredTable as OwnTable}
+use Rattle.roll_core.specs.Running.{IsSite, Runs, meant, numbers_in, stored_count}
+use Rattle.roll_core.specs.Changing.{changed, with_changes}
+use Rattle.roll_core.specs.Seen.{row_count as own_count, seen}
+use Rattle.roll_core.specs.Store.{StoredTable, kept, rows_meant, table_meant}
 
--- ---- lists
+-- ---- elements
+
+pub is_got : {X : Type 0} (xs : List X) (at : ℕ) (d : X) → at < length xs → slice_get xs at ≡ Some (slice_index_or xs at d)
+is_got [] at d h = absurd (omega (arith, h))
+is_got (first ∷ xs) zero d h = refl
+is_got (first ∷ xs) (suc at) d h = is_got xs at d (omega (arith, h))
+
+pub got_mapped : {X Y : Type 0} (f : X → Y) (xs : List X) (at : ℕ) (x : X) → slice_get xs at ≡ Some x → slice_get (map f xs) at ≡ Some (f x)
+got_mapped f [] at x e = cc
+got_mapped f (first ∷ xs) zero x e = ap (λ y. Some (f y)) (some_same first x e)
+got_mapped f (first ∷ xs) (suc at) x e = got_mapped f xs at x e
 
 pub all_at : {X : Type 0} (P : X → Type 0) (xs : List X) (at : ℕ) (x : X) → AllByRecursion P xs → slice_get xs at ≡ Some x → P x
 all_at P [] at x h e = cc
@@ -27,137 +47,178 @@ all_set P [] at x h p = tt
 all_set P (first ∷ xs) zero x h p = (p, h.1)
 all_set P (first ∷ xs) (suc at) x h p = (h.0, all_set P xs at x h.1 p)
 
--- ---- the table of a number
-
--- The table of a number is stored at its place.
-pub record IsHere (number : ℕ) (store : List StoredTable) (table : StoredTable) : Type 0 where
-  pub here : slice_get store (table_place number store) ≡ Some table
+-- The table at a place that was read.
+pub record IsRead (tables : List StoredTable) (at number : ℕ) (table : StoredTable) : Type 0 where
+  pub here : slice_get tables at ≡ Some table
   pub numbered : table.number ≡ number
-  pub within : table_place number store < length store
 
-pub table_here : (number : ℕ) (store : List StoredTable) → list_any (nat_eq number) (stored_numbers store) ≡ true → (table : StoredTable) × IsHere number store table
-table_here number [] h = cc
-table_here number (first ∷ store) h = by_test (first.number == number) refl (table_here number store)
-  where
-    among : (first.number == number) ≡ false → list_any (nat_eq number) (stored_numbers store) ≡ true
-    among e = let no : nat_eq number first.number ≡ false = grind (arith, nat_tests) in subst (λ b. (b || list_any (nat_eq number) (stored_numbers store)) ≡ true) no h
-
-    by_test : (b : Bool) → (first.number == number) ≡ b → (list_any (nat_eq number) (stored_numbers store) ≡ true → (table : StoredTable) × IsHere number store table)
-        → (table : StoredTable) × IsHere number (first ∷ store) table
-    by_test true e there = (first, record { here = rw e refl; numbered = grind (arith, nat_tests); within = rw e (omega arith) })
-    by_test false e there =
-        let rest = there (among e) in
-        let within = rest.1.within in
-        (rest.0, record { here = rw e rest.1.here; numbered = rest.1.numbered; within = rw e (omega arith) })
-
--- its rows are those of the state
-pub rows_here : (phase : Phase) (number : ℕ) (store : List StoredTable) (table : StoredTable) → slice_get store (table_place number store) ≡ Some table
-    → option_map_or (λ table. table.1) (find (λ table. table.0 == number) (map (table_meant phase) store)) [] ≡ rows_meant phase table
-rows_here phase number [] table h = cc
-rows_here phase number (first ∷ store) table h = by_test (first.number == number) (rows_here phase number store table) h
-  where
-    by_test : (b : Bool)
-        → (slice_get store (table_place number store) ≡ Some table → option_map_or (λ table. table.1) (find (λ table. table.0 == number) (map (table_meant phase) store)) [] ≡ rows_meant phase table)
-        → slice_get (first ∷ store) (if b then 0 else suc (table_place number store)) ≡ Some table
-        → option_map_or (λ table. table.1) (if b then Some (table_meant phase first) else find (λ table. table.0 == number) (map (table_meant phase) store)) [] ≡ rows_meant phase table
-    by_test true there e = let same : first ≡ table = cc in ap (rows_meant phase) same
-    by_test false there e = there e
-
-pub rows_of-here : (frame : State) (number : ℕ) (store : List StoredTable) (table : StoredTable) → IsHere number store table → rows_of (meaning frame store) number ≡ rows_meant (phase_of frame) table
-rows_of-here frame number store table h = rows_here (phase_of frame) number store table h.here
+pub read_at : (tables : List OwnTable) (at number : ℕ) (d table : OwnTable) → at < length tables → option_map (λ table. table.number) (slice_get tables at) ≡ Some number → table ≡ slice_index_or tables at d → IsRead (map seen tables) at number (seen table)
+read_at tables at number d table h n e =
+    let got : slice_get tables at ≡ Some table = is_got tables at d h ∙ ap Some (sym e) in
+    record { here = got_mapped seen tables at table got; numbered = some_same table.number number (ap (option_map (λ (t : OwnTable). t.number)) (sym got) ∙ n) }
 
 -- ---- numbers
 
-numbers_meant : (phase : Phase) (store : List StoredTable) → map (λ table. table.0) (map (table_meant phase) store) ≡ stored_numbers store
-numbers_meant phase [] = refl
-numbers_meant phase (table ∷ store) = ap (λ rest. table.number ∷ rest) (numbers_meant phase store)
+pub numbers_of-meant : (frame : State) (tables : List StoredTable) → numbers_of (meant frame tables) ≡ numbers_in tables
+numbers_of-meant frame [] = refl
+numbers_of-meant frame (table ∷ tables) = ap (λ rest. table.number ∷ rest) (numbers_of-meant frame tables)
 
-pub numbers_of-meaning : (frame : State) (store : List StoredTable) → numbers_of (meaning frame store) ≡ stored_numbers store
-numbers_of-meaning frame store = numbers_meant (phase_of frame) store
+pub ascend : (frame : State) (tables : List StoredTable) → IsState (meant frame tables) → NumbersAscend (numbers_in tables)
+ascend frame tables stands = subst NumbersAscend (numbers_of-meant frame tables) stands.numbers
 
 rest_ascends : (number : ℕ) (numbers : List ℕ) → NumbersAscend (number ∷ numbers) → NumbersAscend numbers
 rest_ascends number [] h = tt
 rest_ascends number (next ∷ numbers) h = h.1
 
-abbrev replaced : ℕ → List Kept → ℕ × List Kept → ℕ × List Kept
-replaced number rows table = if table.0 == number then (number, rows) else table
+-- the tables behind have greater numbers
+behind : (first : ℕ) (tables : List StoredTable) (at : ℕ) (table : StoredTable) → NumbersAscend (first ∷ numbers_in tables) → slice_get tables at ≡ Some table → first < table.number
+behind first [] at table a e = cc
+behind first (next ∷ tables) zero table a e = let same : next ≡ table = cc in subst (λ (t : StoredTable). first < t.number) same a.0
+behind first (next ∷ tables) (suc at) table a e = let more = behind next.number tables at table a.1 e in let less = a.0 in omega (arith, more, less)
 
--- tables behind that of a number have others
-absent : (phase : Phase) (number : ℕ) (rows : List Kept) (first : ℕ) (store : List StoredTable) → NumbersAscend (first ∷ stored_numbers store) → number ≤ first → map (replaced number rows) (map (table_meant phase) store) ≡ map (table_meant phase) store
-absent phase number rows first [] h le = refl
-absent phase number rows first (table ∷ store) h le =
-    let there = absent phase number rows table.number store h.1 (le_of_lt (lt_of_le_of_lt le h.0)) in
-    let differ : (table.number == number) ≡ false = let above = h.0 in grind (arith, nat_tests) in
-    by_test (table.number == number) differ there
-  where
-    by_test : (b : Bool) → b ≡ false → map (replaced number rows) (map (table_meant phase) store) ≡ map (table_meant phase) store
-        → (if◌then◌else◌ {A = ℕ × List Kept} b (number, rows) (table_meant phase table)) ∷ map (replaced number rows) (map (table_meant phase) store) ≡ table_meant phase table ∷ map (table_meant phase) store
-    by_test true e there = cc
-    by_test false e there = ap (λ ts. table_meant phase table ∷ ts) there
-
--- a number below all of these tables' is none of theirs
-below_place : (first : ℕ) (store : List StoredTable) (at : ℕ) (table : StoredTable) → NumbersAscend (first ∷ stored_numbers store) → slice_get store at ≡ Some table → first < table.number
-below_place first [] at table a e = cc
-below_place first (next ∷ store) zero table a e = let same : next ≡ table = cc in subst (λ (t : StoredTable). first < t.number) same a.0
-below_place first (next ∷ store) (suc at) table a e = let more = below_place next.number store at table a.1 e in let less = a.0 in omega arith
-
--- The place of a table's number is its own.
-pub place_is : (store : List StoredTable) (at : ℕ) (table : StoredTable) → NumbersAscend (stored_numbers store) → slice_get store at ≡ Some table → (table_place table.number store ≡ at) × (at < length store)
-place_is [] at table a e = cc
-place_is (first ∷ store) zero table a e =
+found_at : (tables : List StoredTable) (at : ℕ) (table : StoredTable) → NumbersAscend (numbers_in tables) → slice_get tables at ≡ Some table → find (λ other. other.0 == table.number) (map table_meant tables) ≡ Some (table_meant table)
+found_at [] at table a e = cc
+found_at (first ∷ tables) zero table a e =
     let same : first ≡ table = cc in
     let number : first.number ≡ table.number = ap (λ (t : StoredTable). t.number) same in
     let is : (first.number == table.number) ≡ true = grind (arith, nat_tests) in
-    (rw is refl, omega arith)
-place_is (first ∷ store) (suc at) table a e =
-    let less = below_place first.number store at table a e in
+    rw is (ap (λ t. Some (table_meant t)) same)
+found_at (first ∷ tables) (suc at) table a e =
+    let less = behind first.number tables at table a e in
     let differ : (first.number == table.number) ≡ false = grind (arith, nat_tests) in
-    let there = place_is store at table (rest_ascends first.number (stored_numbers store) a) e in
-    let within = there.1 in
-    (rw differ (ap suc there.0), omega arith)
+    rw differ (found_at tables at table (rest_ascends first.number (numbers_in tables) a) e)
 
--- A table is the one of its number.
-pub place_at : (store : List StoredTable) (at : ℕ) (table : StoredTable) → NumbersAscend (stored_numbers store) → slice_get store at ≡ Some table → IsHere table.number store table
-place_at store at table a e =
-    let is = place_is store at table a e in
-    record { here = ap (slice_get store) is.0 ∙ e; numbered = refl; within = subst (λ n. n < length store) (sym is.0) is.1 }
+-- The rows of the table at a place are those of its number.
+pub rows_of-read : (frame : State) (tables : List StoredTable) (at number : ℕ) (table : StoredTable) → IsState (meant frame tables) → IsRead tables at number table → rows_of (meant frame tables) number ≡ rows_meant table
+rows_of-read frame tables at number table stands r =
+    ap (rows_of (meant frame tables)) (sym r.numbered) ∙ ap (λ (o : Option (ℕ × List Kept)). option_map_or (λ table. table.1) o []) (found_at tables at table (ascend frame tables stands) r.here)
+
+-- ---- the table of a site is stored
+
+among : (numbers : List ℕ) (number : ℕ) (tables : List Table) (table : Table) → list_all (λ table. list_any (nat_eq (number_of table)) numbers) tables ≡ true → find {X = Table} (λ table. table.1 == number) tables ≡ Some table → list_any (nat_eq number) numbers ≡ true
+among numbers number [] table h e = cc
+among numbers number (first ∷ tables) table h e =
+    let parts = both (list_any (nat_eq (number_of first)) numbers) (list_all (λ (table : Table). list_any (nat_eq (number_of table)) numbers) tables) h in
+    by_test parts.0 (among numbers number tables table parts.1) (first.1 == number) refl e
+  where
+    by_test : list_any (nat_eq (number_of first)) numbers ≡ true → (find {X = Table} (λ table. table.1 == number) tables ≡ Some table → list_any (nat_eq number) numbers ≡ true) → (b : Bool) → (first.1 == number) ≡ b → (if b then Some first else find {X = Table} (λ table. table.1 == number) tables) ≡ Some table → list_any (nat_eq number) numbers ≡ true
+    by_test here there true k e =
+        let same : first.1 ≡ number = grind (arith, nat_tests) in
+        subst (λ n. list_any (nat_eq n) numbers ≡ true) same here
+    by_test here there false k e = there e
+
+newer_among : (s : State) (mode : Mode) → ModeStands s mode → (number : ℕ) (table : Table) → option_and_then (λ schema. table_numbered schema number) (newer_schema mode) ≡ Some table → list_any (nat_eq number) (numbers_of s) ≡ true
+newer_among s Calm h number table e = cc
+newer_among s (Both name schema fates) h number table e = among (numbers_of s) number schema.tables table h.version.rows e
+
+side_among : (s : State) → IsState s → (side : Side) (number : ℕ) (table : Table) → table_on s side number ≡ Some table → list_any (nat_eq number) (numbers_of s) ≡ true
+side_among s stands Old number table e = among (numbers_of s) number s.schema.tables table stands.version.rows e
+side_among s stands New number table e = newer_among s s.mode stands.mode number table e
+
+on_meant : (frame : State) (tables : List StoredTable) (side : Side) (number : ℕ) → table_on (meant frame tables) side number ≡ table_on frame side number
+on_meant frame tables Old number = refl
+on_meant frame tables New number = refl
+
+pub site_there : (frame : State) (tables : List StoredTable) (site : Site) → Runs frame tables → IsSite frame site → list_any (nat_eq (number_of site.here)) (numbers_in tables) ≡ true
+site_there frame tables site runs there =
+    let found = there.0 in
+    let number = number_of found.table in
+    let on = on_meant frame tables found.side number ∙ there.2.on_side in
+    let is = subst (λ ns. list_any (nat_eq number) ns ≡ true) (numbers_of-meant frame tables) (side_among (meant frame tables) runs.stands found.side number found.table on) in
+    subst (λ (s : Site). list_any (nat_eq (number_of s.here)) (numbers_in tables) ≡ true) (sym there.1) is
 
 -- ---- another table in its place
 
-pub with_here : (phase : Phase) (number : ℕ) (rows : List Kept) (store : List StoredTable) (new : StoredTable) → NumbersAscend (stored_numbers store)
-    → table_place number store < length store → table_meant phase new ≡ (number, rows)
-    → map (replaced number rows) (map (table_meant phase) store) ≡ map (table_meant phase) (slice_set store (table_place number store) new)
-with_here phase number rows [] new a within is = absurd (omega arith)
-with_here phase number rows (first ∷ store) new a within is =
-    by_test (first.number == number) refl within (with_here phase number rows store new (rest_ascends first.number (stored_numbers store) a))
-  where
-    by_test : (b : Bool) → (first.number == number) ≡ b → (if b then 0 else suc (table_place number store)) < suc (length store)
-        → (table_place number store < length store → table_meant phase new ≡ (number, rows) → map (replaced number rows) (map (table_meant phase) store) ≡ map (table_meant phase) (slice_set store (table_place number store) new))
-        → (if◌then◌else◌ {A = ℕ × List Kept} b (number, rows) (table_meant phase first)) ∷ map (replaced number rows) (map (table_meant phase) store)
-        ≡ map (table_meant phase) (slice_set (first ∷ store) (if b then 0 else suc (table_place number store)) new)
-    by_test true e w there =
-        let same : number ≡ first.number = grind (arith, nat_tests) in
-        let rest = absent phase number rows first.number store a (le_of_eq same) in
-        ap (λ ts. (number, rows) ∷ ts) rest ∙ ap (λ t. t ∷ map (table_meant phase) store) (sym is)
-    by_test false e w there = ap (λ ts. table_meant phase first ∷ ts) (there (omega arith) is)
+pub on_err : {X E : Type 0} (r : Result X E) (P : Type 0) → P → OnErr r P
+on_err (Ok x) P p = tt
+on_err (Err e) P p = p
 
--- A state with other rows in a table is that of the store with another table in its place.
-pub with_rows-here : (frame : State) (number : ℕ) (rows : List Kept) (store : List StoredTable) (table new : StoredTable) → NumbersAscend (numbers_of (meaning frame store))
-    → IsHere number store table → table_meant (phase_of frame) new ≡ (number, rows) → with_rows (meaning frame store) number rows ≡ meaning frame (slice_set store (table_place number store) new)
-with_rows-here frame number rows store table new a h is =
-    ap (λ (tables : List (ℕ × List Kept)). record frame { tables = tables })
-    (with_here (phase_of frame) number rows store new (subst NumbersAscend (numbers_of-meaning frame store) a) h.within is)
+set_got : {X : Type 0} (xs : List X) (at : ℕ) (x : X) → slice_get xs at ≡ Some x → slice_set xs at x ≡ xs
+set_got [] at x e = cc
+set_got (first ∷ xs) zero x e = ap (λ y. y ∷ xs) (sym (some_same first x e))
+set_got (first ∷ xs) (suc at) x e = ap (λ ys. first ∷ ys) (set_got xs at x e)
+
+pub set_mapped : {X Y : Type 0} (f : X → Y) (xs : List X) (at : ℕ) (x : X) → map f (slice_set xs at x) ≡ slice_set (map f xs) at (f x)
+set_mapped f [] at x = refl
+set_mapped f (first ∷ xs) zero x = refl
+set_mapped f (first ∷ xs) (suc at) x = ap (λ ys. f first ∷ ys) (set_mapped f xs at x)
+
+pub set_same : (tables : List OwnTable) (at : ℕ) (d table new : OwnTable) → at < length tables → table ≡ slice_index_or tables at d → seen new ≡ seen table → map seen (slice_set tables at new) ≡ map seen tables
+set_same tables at d table new h e is =
+    let got = got_mapped seen tables at table (is_got tables at d h ∙ ap Some (sym e)) in
+    set_mapped seen tables at new ∙ ap (slice_set (map seen tables) at) is ∙ set_got (map seen tables) at (seen table) got
+
+pub set_changed : (tables : List OwnTable) (at : ℕ) (d table new : OwnTable) (changes : List Change) → at < length tables → table ≡ slice_index_or tables at d → seen new ≡ changed changes table → Some (map seen (slice_set tables at new)) ≡ with_changes at changes tables
+set_changed tables at d table new changes h e is =
+    let got : slice_get tables at ≡ Some table = is_got tables at d h ∙ ap Some (sym e) in
+    ap Some (set_mapped seen tables at new ∙ ap (slice_set (map seen tables) at) is) ∙ ap (option_map (λ table. slice_set (map seen tables) at (changed changes table))) (sym got)
+
+-- a table whose number is another one is as it was
+abbrev replaced : ℕ → List Kept → ℕ × List Kept → ℕ × List Kept
+replaced number rows table = if table.0 == number then (number, rows) else table
+
+other_table : (number : ℕ) (rows : List Kept) (table : StoredTable) → (table.number == number) ≡ false → replaced number rows (table_meant table) ≡ table_meant table
+other_table number rows table e = ap (λ b. if◌then◌else◌ {A = ℕ × List Kept} b (number, rows) (table_meant table)) e
+
+-- tables behind that of a number have others
+absent : (number : ℕ) (rows : List Kept) (first : ℕ) (tables : List StoredTable) → NumbersAscend (first ∷ numbers_in tables) → number ≤ first → map (replaced number rows) (map table_meant tables) ≡ map table_meant tables
+absent number rows first [] h le = refl
+absent number rows first (table ∷ tables) h le =
+    let above = h.0 in
+    let differ : (table.number == number) ≡ false = grind (arith, nat_tests) in
+    let there = absent number rows table.number tables h.1 (omega (arith, above, le)) in
+    ap (λ t. t ∷ map (replaced number rows) (map table_meant tables)) (other_table number rows table differ) ∙ ap (λ ts. table_meant table ∷ ts) there
+
+with_set : (number : ℕ) (rows : List Kept) (tables : List StoredTable) (at : ℕ) (table new : StoredTable) → NumbersAscend (numbers_in tables) → slice_get tables at ≡ Some table → table.number ≡ number → table_meant new ≡ (number, rows) → map (replaced number rows) (map table_meant tables) ≡ map table_meant (slice_set tables at new)
+with_set number rows [] at table new a e n is = cc
+with_set number rows (first ∷ tables) zero table new a e n is =
+    let same : first ≡ table = cc in
+    let numbered : first.number ≡ number = ap (λ (t : StoredTable). t.number) same ∙ n in
+    let test : (first.number == number) ≡ true = grind (arith, nat_tests) in
+    let here : replaced number rows (table_meant first) ≡ (number, rows) = ap (λ b. if◌then◌else◌ {A = ℕ × List Kept} b (number, rows) (table_meant first)) test in
+    ap (λ t. t ∷ map (replaced number rows) (map table_meant tables)) (here ∙ sym is) ∙ ap (λ ts. table_meant new ∷ ts) (absent number rows first.number tables a (le_of_eq (sym numbered)))
+with_set number rows (first ∷ tables) (suc at) table new a e n is =
+    let less = behind first.number tables at table a e in
+    let differ : (first.number == number) ≡ false = grind (arith, nat_tests) in
+    ap (λ t. t ∷ map (replaced number rows) (map table_meant tables)) (other_table number rows first differ) ∙ ap (λ ts. table_meant first ∷ ts) (with_set number rows tables at table new (rest_ascends first.number (numbers_in tables) a) e n is)
+
+-- The state with other rows in a table is that of the tables with another one in its place.
+pub with_rows-set : (frame : State) (tables : List StoredTable) (at number : ℕ) (rows : List Kept) (table new : StoredTable) → IsState (meant frame tables) → IsRead tables at number table → table_meant new ≡ (number, rows) → with_rows (meant frame tables) number rows ≡ meant frame (slice_set tables at new)
+with_rows-set frame tables at number rows table new stands r is =
+    ap (λ (ts : List (ℕ × List Kept)). record frame { tables = ts }) (with_set number rows tables at table new (ascend frame tables stands) r.here r.numbered is)
 
 -- ---- the number of rows
 
-count_meant : (phase : Phase) (store : List StoredTable) → sum_by (λ table. length table.1) (map (table_meant phase) store) ≡ stored_count store
-count_meant phase [] = refl
-count_meant phase (table ∷ store) =
-    let one = sum_by-cons (λ (table : ℕ × List Kept). length table.1) (table_meant phase table) (map (table_meant phase) store) in
-    let other = sum_by-cons (λ (table : StoredTable). length table.rows) table store in
-    let same = length-map table.rows (kept phase table.pair) in
-    let there = count_meant phase store in
+count_meant : (tables : List StoredTable) → sum_by (λ table. length table.1) (map table_meant tables) ≡ stored_count tables
+count_meant [] = refl
+count_meant (table ∷ tables) =
+    let one = sum_by-cons (λ (table : ℕ × List Kept). length table.1) (table_meant table) (map table_meant tables) in
+    let other = sum_by-cons (λ (table : StoredTable). length table.rows) table tables in
+    let same = length-map table.rows (kept table.form) in
+    let there = count_meant tables in
     omega (arith, one, other, same, there)
 
-pub row_count-meaning : (frame : State) (store : List StoredTable) → row_count (meaning frame store) ≡ stored_count store
-row_count-meaning frame store = count_meant (phase_of frame) store
+pub row_count-meant : (frame : State) (tables : List StoredTable) → row_count (meant frame tables) ≡ stored_count tables
+row_count-meant frame tables = count_meant tables
+
+pub count_seen : (tables : List OwnTable) → stored_count (map seen tables) ≡ own_count tables
+count_seen [] = refl
+count_seen (table ∷ tables) =
+    let one = sum_by-cons (λ (table : StoredTable). length table.rows) (seen table) (map seen tables) in
+    let other = sum_by-cons (λ (table : OwnTable). finite.len table.rows.rows) table tables in
+    let same = finite.len-entries table.rows.rows in
+    let there = count_seen tables in
+    omega (arith, one, other, same, there)
+
+pub count_set : (tables : List StoredTable) (at : ℕ) (table new : StoredTable) → slice_get tables at ≡ Some table → stored_count (slice_set tables at new) + length table.rows ≡ stored_count tables + length new.rows
+count_set [] at table new e = cc
+count_set (first ∷ tables) zero table new e =
+    let same = ap (λ (t : StoredTable). length t.rows) (some_same first table e) in
+    let one = sum_by-cons (λ (table : StoredTable). length table.rows) first tables in
+    let other = sum_by-cons (λ (table : StoredTable). length table.rows) new tables in
+    omega (arith, same, one, other)
+count_set (first ∷ tables) (suc at) table new e =
+    let there = count_set tables at table new e in
+    let one = sum_by-cons (λ (table : StoredTable). length table.rows) first tables in
+    let other = sum_by-cons (λ (table : StoredTable). length table.rows) first (slice_set tables at new) in
+    omega (arith, there, one, other)

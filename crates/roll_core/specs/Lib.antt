@@ -1,7 +1,5 @@
-pub mod Completing
+pub mod Changing
 pub mod Engine
-pub mod Filling
-pub mod Lines
-pub mod Starting
+pub mod Running
+pub mod Seen
 pub mod Store
-pub mod Views

@@ -4,11 +4,9 @@
 use Rattle.std.specs.Prelude.{◌≡◌, ◌≤◌, ℕ, ℤ, List, [], ◌==◌, false, Option, Some, None, map, unwrap_or, if◌then◌else◌}
 use Rattle.std.specs.List.{AllByRecursion}
 use Rattle.std.specs.Option.{option_and_then, option_map_or}
-use Rattle.sql_base.specs.declared.shapes.Schema.{Schema}
 use Rattle.sql_base.specs.declared.values.Value.{Value}
 use Rattle.mig_lens.specs.declared.columns.Lens.{Lens}
 use Rattle.mig_lens.specs.declared.faults.Kind.TheVariants.{Nothing}
-use Rattle.mig_lens.specs.declared.plans.Fate.{Fate}
 use Rattle.mig_lens.specs.Laws.{IsSchema, Joins}
 use Rattle.row_rules.specs.declared.kinds.Halves.{Halves}
 use Rattle.row_rules.specs.declared.kinds.Kept.{Kept}
@@ -16,23 +14,18 @@ use Rattle.row_rules.specs.Site.{shape_of}
 use Rattle.machine.specs.declared.states.Mode.TheVariants.{Calm, Both}
 use Rattle.machine.specs.declared.states.State.{State}
 use Rattle.machine.specs.Lawful.{IsLawful}
-use Rattle.machine.specs.Migrate.{lost_weight}
+use Rattle.machine.specs.Migrate.{lost_columns_in, lost_weight}
 use Rattle.machine.specs.Standing.{IsState}
-use Rattle.machine.specs.State.{Shared, lens_among, shared}
+use Rattle.machine.specs.State.{Shared, lens_among, lost_columns_of, shared}
 use Rattle.trigger_pair.specs.declared.pairs.Pair.{Pair}
 use Rattle.trigger_pair.specs.Rows.{IsFilledRow, IsPairedRow}
 use Rattle.trigger_pair.specs.Stored.{new_half, new_view, old_view, stored_row}
 use Rattle.phase_steps.specs.Rows.{IsTrimmedRow, left_row, pair_of, trimmed, trimmed_view}
 use Rattle.roll_core.specs.declared.forms.Form.{Form}
 use Rattle.roll_core.specs.declared.forms.Form.TheVariants.{Own, Paired, Left, Trimmed}
+use Rattle.roll_core.specs.declared.store.Former.{Former}
 
 -- ---- what is kept of a version that is gone
-
--- Its name, its tables, and what became of each of them.
-pub record Former : Type 0 where
-  pub version : List ℕ
-  pub schema : Schema
-  pub fates : List (ℕ × Fate)
 
 -- The state as both versions stood, seen from after the first step of completing.
 abbrev pub both_again : Former → State → State
@@ -135,9 +128,17 @@ IsStoredRow (Paired pair) values = IsPairedRow pair values
 IsStoredRow (Left pair) values = IsFilledRow pair values
 IsStoredRow (Trimmed pair) values = IsTrimmedRow pair values
 
--- A table is stored in the form that the frame says.
+-- How many columns of a table are lost with the version that is gone, until the second step takes them.
+abbrev pub lost_columns_by : Form → ℕ
+lost_columns_by Own = 0
+lost_columns_by (Paired pair) = 0
+lost_columns_by (Left pair) = lost_columns_in pair.lens
+lost_columns_by (Trimmed pair) = 0
+
+-- A table is stored in the form that the frame says, and as many of its columns are lost as the frame says.
 pub record IsStoredTable (stored : Stored) (table : StoredTable) : Type 0 where
   pub form : table.form ≡ form_in stored.former stored.frame table.number
+  pub lost : lost_columns_of stored.frame table.number ≡ lost_columns_by table.form
   pub rows : AllByRecursion (λ row. IsStoredRow table.form row.1) table.rows
 
 -- The version that is gone stood beside the one that stands: the migration's own lenses join the two.

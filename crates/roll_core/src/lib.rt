@@ -1,27 +1,17 @@
 //! The engine: every statement that is said to it, every batch and every command of a migration is one step of the machine.
 //!
-//! The machine's states, events, replies and steps are those of the crate `machine`. Of the definitions here `Store` has
-//! what the engine's stored rows mean as such a state, `Views`, `Filling`, `Starting` and `Completing` have what is
-//! selected and stored, and `Lines` how a history of the machine is told.
+//! The machine's states, events, replies and steps are those of the crate `machine`, and what they mean for the rows of one
+//! table is of the crate `row_rules`. Of the definitions here `Store` has what the engine's stored rows mean as such a
+//! state, and what is stored of a row that is written.
 #![tactic(auto)]
 
-mod answer;
-mod batch;
+mod changing;
 mod commands;
-mod complete;
 mod engine;
-mod filling;
-mod insert;
-mod meaning;
-mod phases;
-mod places;
-mod select;
-mod start;
+mod forms;
+mod statement;
 mod store;
-mod views;
-mod written;
+mod writing;
 
 pub use commands::Cmd;
 pub use engine::Core;
-pub use insert::MAX_ROWS;
-pub use select::MAX_REPLY;

@@ -1,33 +1,24 @@
-//! Stored rows and tables.
-ghost use Rattle.std.specs.Prelude.{◌≡◌, ◌<◌, ◌≤◌, ◌+◌, [], ◌∷◌, ◌++◌, OnOk, OnErr, insert, length, slice_set};
+//! Tables as they are stored, and what is kept of a version that is gone.
+ghost use Rattle.std.specs.Prelude.{◌≡◌, IfOk};
+ghost use Rattle.roll_core.specs.Store as spec;
 
-use sql_base::{List, NoMemory, Value};
+use crate::forms::{Form, halves_of, is_unfilled, lost_of};
+use mig_lens::Fate;
+use row_rules::{Kept, TableRows};
+use row_store::RowStore;
+use sql_base::{List, Name, NoMemory, Schema, Value};
 use std::alloc::Global;
-use std::marker::Model;
-use trigger_pair::Pair;
 
-/// A stored row under its key: its values, place by place.
+/// What is kept of a version that is gone, while steps of tidying are left: its name, its tables, and what became of each
+/// of them.
 #[derive(Drop)]
-pub struct StoredRow {
-    /// The key.
-    pub key: i64,
-    /// The values.
-    pub values: List<Value>,
-}
-
-/// The stored rows of a table, which contracts see as their list.
-#[derive(Drop)]
-pub struct Rows {
-    rows: Vec<StoredRow>,
-}
-
-impl Model for Rows {
-    ghost use Rattle.std.specs.Prelude.{List};
-    ghost use Rattle.roll_core.specs.declared.store.StoredRow.{StoredRow};
-
-    ghost Value = { List StoredRow };
-
-    ghost view = { λ it. it.rows.items };
+pub struct Former {
+    /// Its name, without `public_`.
+    pub version: Name,
+    /// Its tables.
+    pub schema: Schema,
+    /// What became of each table, by its number.
+    pub fates: List<(u32, Fate)>,
 }
 
 /// A table as it is stored.
@@ -35,62 +26,53 @@ impl Model for Rows {
 pub struct StoredTable {
     /// Its number.
     pub number: u32,
-    /// From the start of a migration until the last step of tidying, what both versions have of it.
-    pub pair: Option<Pair>,
-    /// Its rows, in ascending key.
-    pub rows: Rows,
+    /// The form of its rows.
+    pub form: Form,
+    /// Its rows, by key.
+    pub rows: RowStore,
 }
 
-impl Rows {
-    /// No row yet.
-    pub fn new(alloc: Global) -> Rows
-        ensures { result ≡ [] }
-    {
-        Rows {
-            rows: Vec::new(alloc),
-        }
-    }
+// The row that is stored under a key.
+fn kept(alloc: Global, form: &Form, key: i64, values: &[Value]) -> Result<Kept, NoMemory>
+    ensures { IfOk result (λ row. row ≡ spec.kept form.now (key, values.now)) }
+{
+    let halves = halves_of(alloc, form, values)?;
+    let lost = lost_of(alloc, form, values)?;
+    Ok(Kept { key, halves, lost })
+}
 
-    /// The rows.
-    pub fn as_slice(&self) -> &[StoredRow]
-        ensures { result.now ≡ self.now }
-    {
-        self.rows.as_slice()
-    }
+impl TableRows for StoredTable {
+    ghost use Rattle.roll_core.specs.Store.{rows_meant};
+    ghost use Rattle.roll_core.specs.Seen.{seen};
 
-    /// The number of rows.
-    pub fn len(&self) -> usize
-        ensures { result ≡ length self.now }
-    {
+    ghost rows = { λ table. rows_meant (seen table) };
+
+    fn count(&self) -> usize {
         self.rows.len()
     }
 
-    /// One more row at the end. An error is want of memory, and then the rows are as they were.
-    pub fn push(&mut self, row: StoredRow) -> Result<(), NoMemory>
-        ensures ok { OnOk result (self.new ≡ self.old ++ row ∷ []) }
-        ensures err { OnErr result (self.new ≡ self.old) }
-    {
-        self.rows.push(row)?;
-        Ok(())
-    }
-
-    /// One more row at this place. An error is want of memory, and then the rows are as they were.
-    pub fn insert(&mut self, at: usize, row: StoredRow) -> Result<(), NoMemory>
-        requires { at ≤ length self.old }
-        ensures ok { OnOk result (self.new ≡ insert self.old at row) }
-        ensures err { OnErr result (self.new ≡ self.old) }
-    {
-        match self.rows.insert(at, row) {
-            Ok(()) => Ok(()),
-            Err(_) => Err(NoMemory),
+    fn key_at(&self, at: usize) -> i64 {
+        match self.rows.at(at) {
+            Some((key, _)) => key,
+            None => unreachable!(),
         }
     }
 
-    /// A row in the place of another one.
-    pub fn set(&mut self, at: usize, row: StoredRow)
-        requires { at < length self.old }
-        ensures { self.new ≡ slice_set self.old at row }
-    {
-        self.rows[at] = row;
+    fn misses_at(&self, at: usize) -> bool {
+        match self.rows.at(at) {
+            Some((_, values)) => is_unfilled(&self.form, values),
+            None => unreachable!(),
+        }
+    }
+
+    fn has_key(&self, key: i64) -> bool {
+        self.rows.get(key).is_some()
+    }
+
+    fn row_at(&self, alloc: Global, at: usize) -> Result<Kept, NoMemory> {
+        match self.rows.at(at) {
+            Some((key, values)) => kept(alloc, &self.form, key, values),
+            None => unreachable!(),
+        }
     }
 }

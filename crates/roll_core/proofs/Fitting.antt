@@ -1,0 +1,206 @@
+-- The rows that a job puts can be stored in the form of their table.
+use Rattle.std.proofs.Common.{◌≡◌, ◌∙◌, ℕ, ℤ, List, [], ◌∷◌, Bool, true, false, ◌&&◌, Option, Some, None, is_some, cond, int_cmp, Ordering, Less, Equal, Greater, map, ap, refl, sym, subst, option_map, option_and_then}
+use Rattle.std.specs.Prelude.{T}
+use Rattle.std.specs.Cmp.{int_eq_equiv}
+use Rattle.std.specs.FinMap as finite
+use Rattle.std.specs.FinMap.{find, is_sorted}
+use Rattle.std.specs.FinMap.Entries.{below_all}
+use Rattle.std.specs.List.{AllByRecursion as Each}
+use Rattle.std.specs.Ordering.{eq_by_cmp, is_eq, is_lt}
+use Rattle.sql_base.specs.Fit.{row_fits}
+use Rattle.sql_base.specs.Laws.{some_same}
+use Rattle.sql_base.specs.declared.values.Value.{Value}
+use Rattle.mig_lens.specs.Plan.{Table, table_numbered}
+use Rattle.row_rules.specs.declared.kinds.Halves.{Halves}
+use Rattle.row_rules.specs.declared.kinds.Kept.{Kept}
+use Rattle.row_rules.specs.Site.{Beside, number_of, shape_of}
+use Rattle.row_store.specs.Stored.{Rows}
+use Rattle.machine.specs.declared.states.Mode.TheVariants.{Calm}
+use Rattle.machine.specs.declared.states.State.{State}
+use Rattle.machine.specs.Sites.{HalvesAgree, PairStands, SiteRow, TableStands, may_miss_beside, new_table_by, table_by}
+use Rattle.machine.specs.Standing.{HalfStands, NewStands}
+use Rattle.machine.specs.State.{Found, Shared, beside_on, lens_between, newer_schema, shared, site_of, table_on}
+use Rattle.machine.specs.Words.{New, Old, Side}
+use Rattle.phase_steps.specs.Laws.{FilledBefore}
+use Rattle.trigger_pair.specs.declared.pairs.Pair.{Pair}
+use Rattle.roll_core.specs.declared.forms.Form.{Form}
+use Rattle.roll_core.specs.declared.forms.Form.TheVariants.{Own, Paired, Left, Trimmed}
+use Rattle.roll_core.specs.Running.{FormSuits, LeftBy}
+use Rattle.roll_core.specs.Store.{IsStoredRow, StoredRow, kept, lost_columns_by, pair_over}
+use Rattle.roll_core.proofs.Made.{HasNew}
+use Rattle.roll_core.proofs.Storing.{AloneFits, FormStands, Storable, Together, lost_over}
+
+-- ---- what is stored under a key
+
+split : (a b : Bool) → T (a && b) → T a × T b
+split true b h = (tt, h)
+split false b h = absurd h
+
+less_differs : (o : Ordering) → T (is_lt o) → is_eq o ≡ false
+less_differs Less h = refl
+less_differs Equal h = absurd h
+less_differs Greater h = absurd h
+
+behind_found : (first : StoredRow) (all rows : List StoredRow) → T (below_all int_cmp first.0 rows) → Each (λ row. find int_cmp row.0 all ≡ Some row.1) rows → Each (λ row. find int_cmp row.0 (first ∷ all) ≡ Some row.1) rows
+behind_found first all [] b h = tt
+behind_found first all (row ∷ rows) b h =
+    let parts = split (is_lt (int_cmp first.0 row.0)) (below_all int_cmp first.0 rows) b in
+    let differs : eq_by_cmp int_cmp row.0 first.0 ≡ false = int_eq_equiv.symm row.0 first.0 ∙ less_differs (int_cmp first.0 row.0) parts.0 in
+    (ap (λ test. cond test (Some first.1) (find int_cmp row.0 all)) differs ∙ h.0, behind_found first all rows parts.1 h.1)
+
+sorted_found : (rows : List StoredRow) → T (is_sorted int_cmp rows) → Each (λ row. find int_cmp row.0 rows ≡ Some row.1) rows
+sorted_found [] s = tt
+sorted_found (row ∷ rows) s =
+    let parts = split (below_all int_cmp row.0 rows) (is_sorted int_cmp rows) s in
+    (ap (λ test. cond test (Some row.1) (find int_cmp row.0 rows)) (int_eq_equiv.refl row.0), behind_found row rows rows parts.0 (sorted_found rows parts.1))
+
+-- ---- lost weights
+
+abbrev pub WeighsOver : Form → Option (List Value) → ℕ → Type 0
+WeighsOver Own before lost = lost ≡ 0
+WeighsOver (Paired pair) before lost = lost ≡ 0
+WeighsOver (Left pair) before lost = FilledBefore pair before × (lost ≡ lost_over pair before)
+WeighsOver (Trimmed pair) before lost = lost ≡ 0
+
+-- A row of this key may have this lost weight, over what is stored.
+abbrev pub Weighs : Form → Rows → ℤ → ℕ → Type 0
+Weighs form rows key lost = WeighsOver form (finite.get rows key) lost
+
+pub new_weighs : (form : Form) (lost : ℕ) → lost ≡ lost_columns_by form → WeighsOver form None lost
+new_weighs Own lost e = e
+new_weighs (Paired pair) lost e = e
+new_weighs (Left pair) lost e = (tt, e)
+new_weighs (Trimmed pair) lost e = e
+
+row_weighs : (form : Form) (before : Option (List Value)) (row : StoredRow) → before ≡ Some row.1 → IsStoredRow form row.1 → WeighsOver form before (kept form row).lost
+row_weighs Own before row e s = refl
+row_weighs (Paired pair) before row e s = refl
+row_weighs (Left pair) before row e s = (subst (FilledBefore pair) (sym e) s, ap (lost_over pair) (sym e))
+row_weighs (Trimmed pair) before row e s = refl
+
+rows_weigh : (form : Form) (all : Rows) (rows : List StoredRow) → Each (λ row. find int_cmp row.0 (finite.entries all) ≡ Some row.1) rows → Each (λ row. IsStoredRow form row.1) rows → Each (λ row. Weighs form all row.key row.lost) (map (kept form) rows)
+rows_weigh form all [] f s = tt
+rows_weigh form all (row ∷ rows) f s = (row_weighs form (finite.get all row.0) row (finite.get-entries all row.0 ∙ f.0) s.0, rows_weigh form all rows f.1 s.1)
+
+-- The rows that are stored have the lost weights of what is stored.
+pub older_weigh : (form : Form) (rows : Rows) → Each (λ row. IsStoredRow form row.1) (finite.entries rows) → Each (λ row. Weighs form rows row.key row.lost) (map (kept form) (finite.entries rows))
+older_weigh form rows s = rows_weigh form rows (finite.entries rows) (sorted_found (finite.entries rows) (finite.entries_sorted rows)) s
+
+-- ---- the halves of one version
+
+record AloneHas (here : Table) (row : Kept) : Type 0 where
+  values : List Value
+  halves : row.halves ≡ record { old = Some values; new = None }
+  fits : row_fits (shape_of here) values ≡ true
+
+halves_are : (halves : Halves) (old new : Option (List Value)) → halves.old ≡ old → halves.new ≡ new → halves ≡ record { old = old; new = new }
+halves_are halves old new o n = λ i. record { old = o i; new = n i }
+
+none_new : (key : ℤ) (new : Option (List Value)) → HalfStands None key new → new ≡ None
+none_new key None h = refl
+none_new key (Some values) h = absurd h
+
+alone_has : (here : Table) (row : Kept) → HalfStands (Some here) row.key row.halves.old → HalfStands None row.key row.halves.new → AloneHas here row
+alone_has here row o n = by_old row.halves.old refl o
+  where
+    by_old : (old : Option (List Value)) → row.halves.old ≡ old → HalfStands (Some here) row.key old → AloneHas here row
+    by_old None e h = absurd h
+    by_old (Some values) e h = record { values = values; halves = halves_are row.halves (Some values) None e (none_new row.key row.halves.new n); fits = h.0 }
+
+alone_site : (side : Side) (here : Table) (there : Option Beside) (row : Kept) → side ≡ Old → there ≡ None → HalfStands (table_by side here there) row.key row.halves.old → NewStands (may_miss_beside there) (new_table_by side here there) row.key row.halves.new → AloneHas here row
+alone_site Old here None row s t o n = alone_has here row o n
+alone_site Old here (Some beside) row s t o n = cc
+alone_site New here there row s t o n = cc
+
+-- ---- while one version stands
+
+calm_side : (s : State) → s.mode ≡ Calm → (side : Side) (number : ℕ) (table : Table) → table_on s side number ≡ Some table → side ≡ Old
+calm_side s m Old number table e = refl
+calm_side s m New number table e = let none : table_on s New number ≡ None = ap (λ mode. option_and_then (λ schema. table_numbered schema number) (newer_schema mode)) m in cc
+
+pub calm_shared : (s : State) (number : ℕ) → s.mode ≡ Calm → shared s number ≡ None
+calm_shared s number m = ap (λ mode. option_and_then (λ old. option_and_then (λ new. option_map {U = Shared} (λ lens. record { old = old; new = new; lens = lens }) (lens_between mode number)) (option_and_then (λ schema. table_numbered schema number) (newer_schema mode))) (table_on s Old number)) m ∙ by_table (table_on s Old number)
+  where
+    by_table : (o : Option Table) → option_and_then {U = Shared} (λ (old : Table). None) o ≡ None
+    by_table None = refl
+    by_table (Some old) = refl
+
+calm_has : (s : State) (found : Found) → s.mode ≡ Calm → TableStands s found → (row : Kept) → SiteRow (λ lost. Unit {0}) (site_of s found) row → AloneHas found.table row
+calm_has s found m stands row r =
+    let number = number_of found.table in
+    let none = ap (option_map (beside_on found.side)) (calm_shared s number m) in
+    alone_site found.side found.table (site_of s found).there row (calm_side s m found.side number found.table stands.on_side) none r.old r.new
+
+-- ---- while both do
+
+record BothHave (both : Shared) (row : Kept) : Type 0 where
+  old : HalfStands (Some both.old) row.key row.halves.old
+  new : NewStands (may_miss_beside (Some (beside_on Old both))) (Some both.new) row.key row.halves.new
+
+both_site : (side : Side) (here : Table) (both : Shared) (row : Kept) → (side ≡ Old → both.old ≡ here) → (side ≡ New → both.new ≡ here) → HalfStands (table_by side here (Some (beside_on side both))) row.key row.halves.old → NewStands (may_miss_beside (Some (beside_on side both))) (new_table_by side here (Some (beside_on side both))) row.key row.halves.new → BothHave both row
+both_site Old here both row o n ho hn = record { old = subst (λ (t : Table). HalfStands (Some t) row.key row.halves.old) (sym (o refl)) ho; new = hn }
+both_site New here both row o n ho hn = record { old = ho; new = subst (λ (t : Table). NewStands (may_miss_beside (Some (beside_on New both))) (Some t) row.key row.halves.new) (sym (n refl)) hn }
+
+new_stands : (may : Bool) (table : Table) (key : ℤ) (values : List Value) → NewStands may (Some table) key (Some values) → row_fits (shape_of table) values ≡ true
+new_stands true table key values h = h.0
+new_stands false table key values h = h.0
+
+together : (both : Shared) (row : Kept) → BothHave both row → is_some row.halves.new ≡ true → HalvesAgree both.lens row.halves → Together (pair_over both) row
+together both row h some agree = by_halves row.halves.old row.halves.new refl refl h.old h.new some
+  where
+    by_halves : (old new : Option (List Value)) → row.halves.old ≡ old → row.halves.new ≡ new → HalfStands (Some both.old) row.key old → NewStands (may_miss_beside (Some (beside_on Old both))) (Some both.new) row.key new → is_some new ≡ true → Together (pair_over both) row
+    by_halves None new eo en ho hn s = absurd ho
+    by_halves (Some old) None eo en ho hn s = cc
+    by_halves (Some old) (Some new) eo en ho hn s = record {
+      old = old;
+      new = new;
+      halves = halves_are row.halves (Some old) (Some new) eo en;
+      old_fits = ho.0;
+      new_fits = new_stands (may_miss_beside (Some (beside_on Old both))) both.new row.key new hn;
+      agree = λ i at c. agree old new i at eo en c;
+    }
+
+both_has : (s : State) (found : Found) (both : Shared) → shared s (number_of found.table) ≡ Some both → PairStands s (number_of found.table) both → TableStands s found → (row : Kept) → SiteRow (λ lost. Unit {0}) (site_of s found) row → BothHave both row
+both_has s found both is p stands row r =
+    let number = number_of found.table in
+    let there : (site_of s found).there ≡ Some (beside_on found.side both) = ap (option_map (beside_on found.side)) is in
+    let old = subst (λ t. HalfStands (table_by found.side found.table t) row.key row.halves.old) there r.old in
+    let new = subst (λ t. NewStands (may_miss_beside t) (new_table_by found.side found.table t) row.key row.halves.new) there r.new in
+    both_site found.side found.table both row
+    (λ side. some_same both.old found.table (sym p.old ∙ subst (λ side. table_on s side number ≡ Some found.table) side stands.on_side))
+    (λ side. some_same both.new found.table (sym p.new ∙ subst (λ side. table_on s side number ≡ Some found.table) side stands.on_side)) old new
+
+-- ---- any form
+
+-- What the form's pair is to the halves: where both versions have the table, these agree.
+abbrev pub AgreesIn : State → ℕ → Kept → Type 0
+AgreesIn s number row = (both : Shared) → shared s number ≡ Some both → HalvesAgree both.lens row.halves
+
+new_there : (there : Option Beside) (beside : Beside) (halves : Halves) → there ≡ Some beside → HasNew there halves → is_some halves.new ≡ true
+new_there None beside halves e h = cc
+new_there (Some b) beside halves e h = h
+
+pub form_stands : (s : State) (number : ℕ) (form : Form) → FormSuits s number form → FormStands form
+form_stands s number Own f = tt
+form_stands s number (Paired pair) f = f.is_pair
+form_stands s number (Left pair) f = f.is_pair
+form_stands s number (Trimmed pair) f = f.is_pair
+
+left_fits : (s : State) (found : Found) (pair : Pair) → LeftBy s (number_of found.table) pair → TableStands s found → (row : Kept) → SiteRow (λ lost. Unit {0}) (site_of s found) row → AloneFits pair row
+left_fits s found pair f stands row r =
+    let number = number_of found.table in
+    let has = calm_has s found f.calm stands row r in
+    let old = subst (λ side. table_on s side number ≡ Some found.table) (calm_side s f.calm found.side number found.table stands.on_side) stands.on_side in
+    record { values = has.values; halves = has.halves; fits = subst (λ shape. row_fits shape has.values ≡ true) (sym (f.shape found.table old)) has.fits }
+
+pub storable : (s : State) (found : Found) → TableStands s found → ((both : Shared) → shared s (number_of found.table) ≡ Some both → PairStands s (number_of found.table) both) → (form : Form) (before : Option (List Value)) (row : Kept) → FormSuits s (number_of found.table) form
+    → SiteRow (λ lost. Unit {0}) (site_of s found) row → HasNew (site_of s found).there row.halves → AgreesIn s (number_of found.table) row → WeighsOver form before row.lost → Storable form before row
+storable s found stands pairs Own before row f r h a w = let has = calm_has s found f stands row r in (record { values = has.values; halves = has.halves }, w)
+storable s found stands pairs (Paired pair) before row f r h a w =
+    let both = f.both in
+    let there = ap (option_map (beside_on found.side)) f.shares in
+    let have = both_has s found both f.shares (pairs both f.shares) stands row r in
+    let some = new_there (site_of s found).there (beside_on found.side both) row.halves there h in
+    (subst (λ (p : Pair). Together p row) (sym f.over) (together both row have some (a both f.shares)), w)
+storable s found stands pairs (Left pair) before row f r h a w = (left_fits s found pair f stands row r, w.0, w.1)
+storable s found stands pairs (Trimmed pair) before row f r h a w = (left_fits s found pair f stands row r, w)

@@ -1,0 +1,11 @@
+use Rattle.std.proofs.Common.{rules, ◌≡◌, ◌∙◌}
+use Rattle.std.specs.FinMap as finite
+use Rattle.std.specs.Option.{option_copied}
+use Rattle.roll_core.proofs.Rows.{has_key-meant}
+use Rattle.roll_core.proofs.store.StoredTableTableRows.has_key.Goals as goal
+
+pub returns : goal.returns
+returns c =
+    let table = c.args.self.now in
+    let is : option_copied c.get.result ≡ finite.get table.rows.rows c.args.key = search rules in
+    c.is_some.ensures ∙ has_key-meant table.form c.args.key table.rows.rows c.get.result is

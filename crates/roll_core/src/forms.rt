@@ -1,0 +1,131 @@
+//! The forms in which the rows of a table are stored, and the halves that a stored row has.
+ghost use Rattle.std.specs.Prelude.{◌≡◌, IfOk, None, Some, is_none};
+ghost use Rattle.machine.specs.Migrate as migrate;
+ghost use Rattle.trigger_pair.specs.Stored as stored;
+ghost use Rattle.roll_core.specs.Store as spec;
+
+use mig_lens::Cell;
+use phase_steps::{left_row, trimmed, trimmed_view};
+use row_rules::Halves;
+use sql_base::{Copying, List, NoMemory, Value, value_weight};
+use std::alloc::Global;
+use trigger_pair::{Pair, is_marked, new_view, old_view};
+
+/// The form in which the rows of a table are stored. The pair is what both versions have of the table.
+#[derive(Drop)]
+pub enum Form {
+    /// One version has the table: its columns, in its order.
+    Own,
+    /// Both versions stand: the pair's layout.
+    Paired(Pair),
+    /// The old version is gone, with two steps of tidying left: still the pair's layout.
+    Left(Pair),
+    /// One step is left: the old columns that were lost and the mark are gone, the other places stand as they did.
+    Trimmed(Pair),
+}
+
+impl Copying for Form {
+    fn copy(&self, alloc: Global) -> Result<Form, NoMemory> {
+        match self {
+            Form::Own => Ok(Form::Own),
+            Form::Paired(pair) => Ok(Form::Paired(pair.copy(alloc)?)),
+            Form::Left(pair) => Ok(Form::Left(pair.copy(alloc)?)),
+            Form::Trimmed(pair) => Ok(Form::Trimmed(pair.copy(alloc)?)),
+        }
+    }
+}
+
+/// These values once more. An error is want of memory.
+pub fn copied(alloc: Global, values: &[Value]) -> Result<List<Value>, NoMemory>
+    ensures { IfOk result (λ copy. copy ≡ values.now) }
+{
+    trigger_pair::parts::with_all(alloc, List::new(alloc), values)
+}
+
+// The halves of a row that one version alone has.
+fn alone(values: List<Value>) -> Halves
+    ensures { result ≡ record { old = Some values; new = None } }
+{
+    Halves {
+        old: Some(values),
+        new: None,
+    }
+}
+
+fn new_half(alloc: Global, pair: &Pair, values: &[Value]) -> Result<Option<List<Value>>, NoMemory>
+    ensures { IfOk result (λ half. half ≡ stored.new_half pair.now values.now) }
+{
+    if is_marked(pair, values) {
+        return Ok(None);
+    }
+    Ok(Some(new_view(alloc, pair, values)?))
+}
+
+/// The halves that a row has which is stored in a form. An error is want of memory.
+pub fn halves_of(alloc: Global, form: &Form, values: &[Value]) -> Result<Halves, NoMemory>
+    ensures { IfOk result (λ halves. halves ≡ spec.halves_of form.now values.now) }
+{
+    match form {
+        Form::Own => Ok(alone(copied(alloc, values)?)),
+        Form::Paired(pair) => {
+            let old = old_view(alloc, pair, values)?;
+            let new = new_half(alloc, pair, values)?;
+            Ok(Halves {
+                old: Some(old),
+                new,
+            })
+        }
+        Form::Left(pair) => Ok(alone(new_view(alloc, pair, values)?)),
+        Form::Trimmed(pair) => Ok(alone(trimmed_view(alloc, &pair.lens, values)?)),
+    }
+}
+
+/// Whether a row that is stored in a form is still to be filled.
+pub fn is_unfilled(form: &Form, values: &[Value]) -> bool
+    ensures { result ≡ is_none (spec.halves_of form.now values.now).new }
+{
+    match form {
+        Form::Own => true,
+        Form::Paired(pair) => is_marked(pair, values),
+        Form::Left(_) => true,
+        Form::Trimmed(_) => true,
+    }
+}
+
+fn lost_value(cell: &Cell, value: &Value) -> u64
+    ensures { result ≡ migrate.lost_value (cell.now, value.now) }
+{
+    match cell {
+        Cell::Carry(_) => 0,
+        Cell::Make(_) | Cell::Still(_) => value_weight(value),
+    }
+}
+
+// The weight of the values that aren't carried. (An error is a weight that no row can have that is held in memory.)
+fn lost_weight(cells: &[Cell], values: &[Value]) -> Result<u64, NoMemory>
+    ensures { IfOk result (λ weight. weight ≡ migrate.lost_weight cells.now values.now) }
+{
+    let mut weight: u64 = 0;
+    for (at, cell) in cells.iter().enumerate() {
+        let Some(value) = values.get(at) else {
+            break;
+        };
+        weight = weight.checked_add(lost_value(cell, value)).ok_or(NoMemory)?;
+    }
+    Ok(weight)
+}
+
+/// The lost weight of a row that is stored in a form. An error is want of memory.
+pub fn lost_of(alloc: Global, form: &Form, values: &[Value]) -> Result<u64, NoMemory>
+    ensures { IfOk result (λ weight. weight ≡ spec.lost_of form.now values.now) }
+{
+    match form {
+        Form::Own => Ok(0),
+        Form::Paired(_) => Ok(0),
+        Form::Left(pair) => {
+            let old = old_view(alloc, pair, values)?;
+            lost_weight(pair.lens.old_cols.as_slice(), old.as_slice())
+        }
+        Form::Trimmed(_) => Ok(0),
+    }
+}
