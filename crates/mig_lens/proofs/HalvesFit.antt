@@ -1,5 +1,5 @@
 -- Halves that are made by a lens: they fit, keep the key, and come back where nothing is lost.
-use Rattle.std.proofs.Common.{zero-add, add-zero, ◌≡◌, ◌∙◌, ℕ, zero, suc, ◌+◌, List, [], ◌∷◌, Bool, true, false, ◌&&◌, Option, Some, None, Result, Ok, Err, length, ap, refl, sym, subst, arith}
+use Rattle.std.proofs.Common.{zero-add, add-zero, ◌≡◌, ◌∙◌, ℕ, zero, suc, ◌+◌, List, [], ◌∷◌, true, false, Option, Some, None, Ok, Err, length, ap, refl, sym, subst, arith}
 use Rattle.std.specs.Prelude.{slice_get, slice_index_or, unwrap_or}
 use Rattle.std.specs.List.{list_any}
 use Rattle.std.specs.Option.{option_map_or}

@@ -1,5 +1,4 @@
 -- What the crates above still take from here. All of it is said by laws: of this crate, and of `sql_base`.
-use Rattle.sql_base.specs.Laws as general
 use Rattle.sql_eval.proofs.Soundness.{typed_is_sound}
 use Rattle.mig_lens.specs.Laws.{BackwardFits, ForwardFits}
 use Rattle.mig_lens.proofs.HalvesFit as fit

@@ -1,5 +1,5 @@
 -- Planning wants no memory by its definition: operation by operation.
-use Rattle.std.proofs.Common.{◌≡◌, ◌≢◌, ℕ, ◌+◌, List, [], ◌∷◌, Bool, true, false, Option, Some, None, Result, Ok, Err, if◌then◌else◌, map, subst}
+use Rattle.std.proofs.Common.{◌≢◌, ℕ, ◌+◌, List, [], ◌∷◌, Bool, true, false, Option, Some, None, Result, Ok, Err, map, subst}
 use Rattle.std.specs.Prelude.{codes, length, nat_le, not, ◌&&◌, ◌||◌}
 use Rattle.std.specs.List.{zip}
 use Rattle.std.specs.Option.{ok_or, option_map}

@@ -9,12 +9,11 @@ use Rattle.mig_lens.specs.declared.columns.Cell.TheVariants.{Carry, Make, Still}
 use Rattle.mig_lens.specs.Layout.{layout, mark_place, place_of, shadows}
 use Rattle.mig_lens.specs.Lens.{is_carry}
 use Rattle.trigger_pair.specs.declared.pairs.Pair.{Pair}
-use Rattle.trigger_pair.specs.Laws.{IsPair}
+use Rattle.trigger_pair.specs.Laws.{IsPair, PairsAreLong}
 use Rattle.trigger_pair.specs.Stored.{places}
-use Rattle.trigger_pair.proofs.Halves.{carry_carries, old_long}
-use Rattle.phase_steps.specs.Laws.{CompletedRowsShow, RolledBackRowsShow, TrimmingKeepsView}
+use Rattle.phase_steps.specs.Laws.{CompletedRowsShow, TrimmingKeepsView}
 use Rattle.phase_steps.specs.Rows.{carried_before, carried_values, is_shadow, shadows_in, trimmed, trimmed_places}
-use Rattle.phase_steps.proofs.WrittenRows.{carried_cell}
+use Rattle.phase_steps.proofs.WrittenRows.{carried_cell, carry_carries}
 
 -- ---- one selection, by the places before C2 and after it
 
@@ -72,8 +71,8 @@ shadow_read carried row count start k few =
 -- ---- the laws
 
 -- a stored row has a value for each old column
-wide_enough : (pair : Pair) (row : List Value) → IsPair pair → length row ≡ length pair.layout.columns → length pair.lens.old_cols ≤ length row
-wide_enough pair row p long =
+wide_enough : PairsAreLong → (pair : Pair) (row : List Value) → IsPair pair → length row ≡ length pair.layout.columns → length pair.lens.old_cols ≤ length row
+wide_enough lengths pair row p long =
     let own = map place_of pair.old.columns in
     let more = shadows pair.new.columns pair.lens.new_cols in
     let last = mark_place (layout pair.old pair.new pair.lens).mark in
@@ -81,23 +80,20 @@ wide_enough pair row p long =
     let outer = length-append (own ++ more) last in
     let inner = length-append own more in
     let own_long = length-map pair.old.columns place_of in
-    let old_cols_long = old_long pair p in
+    let old_cols_long = (lengths pair p).0 in
     omega arith
 
-pub trimming_keeps_view : TrimmingKeepsView
-trimming_keeps_view pair row p long =
+pub trimming_keeps_view : PairsAreLong → TrimmingKeepsView
+trimming_keeps_view lengths pair row p long =
     let lens = pair.lens in
-    let wide = wide_enough pair row p long in
+    let wide = wide_enough lengths pair row p long in
     let carried = carried_values lens.old_cols row in
     let count = carried_long lens.old_cols row wide in
     let carries_on : (i at : ℕ) → slice_get lens.new_cols i ≡ Some (Carry at) → slice_index_or (trimmed lens row) (carried_before lens.old_cols at) Null ≡ slice_index_or row at Null = λ i at e.
     carried_read lens.old_cols row (shadows_in lens row) at i wide (carried_cell lens.old_cols at i (sym (p.lens.both_ways i at) ∙ carry_carries lens.new_cols i at e)) in
     let shadowed : (k : ℕ) → k < length (filter is_shadow lens.new_cols) → slice_index_or (trimmed lens row) (length (filter is_carry lens.old_cols) + k) Null ≡ slice_index_or row (length pair.old.columns + k) Null = λ k few.
-    ap (λ n. slice_index_or (trimmed lens row) (n + k) Null) (sym count) ∙ shadow_read carried row (length (filter is_shadow lens.new_cols)) (length lens.old_cols) k few ∙ ap (λ n. slice_index_or row (n + k) Null) (old_long pair p) in
+    ap (λ n. slice_index_or (trimmed lens row) (n + k) Null) (sym count) ∙ shadow_read carried row (length (filter is_shadow lens.new_cols)) (length lens.old_cols) k few ∙ ap (λ n. slice_index_or row (n + k) Null) (lengths pair p).0 in
     same_selection (λ at. slice_index_or row at Null) (λ at. slice_index_or (trimmed lens row) at Null) lens.old_cols (length pair.old.columns) (length (filter is_carry lens.old_cols)) lens.new_cols carries_on shadowed
 
-pub completed_rows_show : CompletedRowsShow
-completed_rows_show pair row p long = trimming_keeps_view pair row p long
-
-pub rolled_back_rows_show : RolledBackRowsShow
-rolled_back_rows_show pair row = refl
+pub completed_rows_show : PairsAreLong → CompletedRowsShow
+completed_rows_show lengths pair row p long = trimming_keeps_view lengths pair row p long

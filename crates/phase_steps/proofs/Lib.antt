@@ -1,3 +1,4 @@
 pub mod CompletedRows
+pub mod KeptPlaces
 pub mod StoredRows
 pub mod WrittenRows

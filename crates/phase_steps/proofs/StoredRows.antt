@@ -8,14 +8,14 @@ use Rattle.sql_base.specs.declared.values.Ty.{Ty}
 use Rattle.sql_base.specs.declared.values.Value.{Value}
 use Rattle.sql_base.specs.declared.values.Value.TheVariants.{Null}
 use Rattle.sql_base.specs.Fit.{fits_columns, has_type}
+use Rattle.sql_base.specs.Laws.{all_true, both, columns_fit, columns_long}
 use Rattle.sql_eval.specs.Typing.{same}
 use Rattle.mig_lens.specs.declared.columns.Cell.{Cell}
 use Rattle.mig_lens.specs.declared.columns.Cell.TheVariants.{Carry, Make, Still}
 use Rattle.mig_lens.specs.Layout.{has_mark}
 use Rattle.mig_lens.specs.Lens.{cell_fits, cells_fit, is_of_type}
-use Rattle.mig_lens.proofs.MadeHalves.{all_true, both}
 use Rattle.trigger_pair.specs.Stored.{mark_value, shadow_values}
-use Rattle.trigger_pair.proofs.Halves.{columns_fit, columns_long, old_long, pair_long}
+use Rattle.trigger_pair.specs.Laws.{PairsAreLong}
 use Rattle.phase_steps.specs.Laws.{LeavingRowsAreFilled, TrimmingLeavesTrimmed}
 use Rattle.phase_steps.specs.Rows.{carried_of, carried_values, is_shadow, leaving_value, trimmed}
 
@@ -71,13 +71,13 @@ shadows_counted (Carry at ∷ cells) (v ∷ new) e = shadows_counted cells new (
 shadows_counted (Make up ∷ cells) (v ∷ new) e = ap suc (shadows_counted cells new (omega arith))
 shadows_counted (Still x ∷ cells) (v ∷ new) e = ap suc (shadows_counted cells new (omega arith))
 
-pub trimming_leaves_trimmed : TrimmingLeavesTrimmed
-trimming_leaves_trimmed pair stored p row =
+pub trimming_leaves_trimmed : PairsAreLong → TrimmingLeavesTrimmed
+trimming_leaves_trimmed long pair stored p row =
     let lens = pair.lens in
     let shadow = shadow_values lens.new_cols row.new in
     let mark = mark_value pair.layout.mark false in
-    let old_as_long = columns_long pair.old.columns row.old row.old_fits ∙ sym (old_long pair p) in
-    let new_as_long = columns_long pair.new.columns row.new row.new_fits ∙ sym (pair_long pair p) in
+    let old_as_long = columns_long pair.old.columns row.old row.old_fits ∙ sym (long pair p).0 in
+    let new_as_long = columns_long pair.new.columns row.new row.new_fits ∙ sym (long pair p).1 in
     let joined : stored ≡ row.old ++ (shadow ++ mark) = row.is ∙ append_assoc row.old shadow mark in
     let carried = carried_of_old lens.old_cols row.old (shadow ++ mark) old_as_long in
     let behind = drop_at row.old (shadow ++ mark) (length lens.old_cols) old_as_long in

@@ -1,7 +1,7 @@
 -- What becomes of the stored rows of a table that both versions have, step by step from START until one version stands alone.
 --
 -- A migration begins with START. From then on both versions stand, and a row is stored as the triggers leave it. It is completed in three steps: C1 drops the old version's views, C2 removes the places that only the old version showed, and C3 puts the places in the order of the new version's columns. It is rolled back in two: B1 drops the new version's views, and B2 removes the places that only the new version showed. Between two steps rows are written by the version that stands. That completing removes the old columns, and that rolling back removes the new ones, is pgroll's (its documentation, How pgroll works); the steps and the rest are our own.
-use Rattle.std.specs.Prelude.{ℕ, ◌+◌, Bool, ◌==◌, ◌||◌, false, true, List, [], ◌∷◌, ◌++◌, drop, filter, length, map, slice_index_or, take, if◌then◌else◌}
+use Rattle.std.specs.Prelude.{ℕ, ◌+◌, Bool, ◌==◌, false, true, List, [], ◌∷◌, ◌++◌, drop, filter, length, map, slice_index_or, take, if◌then◌else◌}
 use Rattle.sql_base.specs.declared.shapes.Shape.{Shape}
 use Rattle.sql_base.specs.declared.values.Value.{Value}
 use Rattle.sql_base.specs.declared.values.Value.TheVariants.{Null}
@@ -78,14 +78,11 @@ leaving_row lens values = map (leaving_value values) lens.old_cols ++ shadow_val
 
 -- ---- the steps
 
--- The steps that change stored rows: START is 0, C2 is 2, C3 is 3 and B2 is 5. C1 and B1, which are 1 and 4, change no row.
-abbrev pub changes_rows : ℕ → Bool
-changes_rows step = step == 0 || step == 2 || step == 3 || step == 5
-
--- A stored row after such a step, from the row before it. After B2 the old columns are left.
+-- A stored row after a step, from the row before it. START, C2, C3 and B2, which are 0, 2, 3 and 5, change rows; C1 and B1, which are 1 and 4, change none.
 abbrev pub restored : ℕ → Shape → Shape → Lens → List Value → List Value
 restored step old new lens row =
     if step == 0 then begun (pair_of old new lens) row
     else if step == 2 then trimmed lens row
     else if step == 3 then trimmed_view lens row
-    else old_view (pair_of old new lens) row
+    else if step == 5 then old_view (pair_of old new lens) row
+    else row

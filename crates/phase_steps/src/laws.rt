@@ -1,25 +1,51 @@
 //! The laws of the steps. Each is the contract of a function that does nothing.
-ghost use Rattle.phase_steps.specs.Laws.{CompletedRowsShow, LeavingRowsAreFilled, LeavingRowsShow, RolledBackRowsShow, TrimmingKeepsView, TrimmingLeavesTrimmed};
+ghost use Rattle.phase_steps.specs.Laws.{CompletedRowsShow, KeepsPlaces, LeavingRowsAreFilled, LeavingRowsShow, PlacesAreTheLayouts, Selects, TrimmingKeepsView, TrimmingLeavesTrimmed};
+ghost use Rattle.trigger_pair.specs.Stored.{new_view, old_view};
+ghost use Rattle.phase_steps.specs.Places.{completed_places, paired_places, rolled_back_places, trimmed_row_places};
 
 /// A row that is written between C1 and C2 shows the values that were written, and has a value for each place.
 pub fn leaving_rows_show_what_was_written()
     ensures { LeavingRowsShow }
-{}
+{
+    trigger_pair::laws::pairs_are_long();
+    trigger_pair::laws::stored_rows_hold();
+}
 
 /// C2 and C3 change nothing that the new version shows: C2 keeps what the view selects, and after C3 a row is just that.
 pub fn completing_changes_no_view()
     ensures trimmed { TrimmingKeepsView }
     ensures ordered { CompletedRowsShow }
-{}
+{
+    trigger_pair::laws::pairs_are_long();
+}
 
-/// B2 changes nothing that the old version shows: a row is then just what its view selects.
-pub fn rolling_back_changes_no_view()
-    ensures { RolledBackRowsShow }
-{}
+/// The places of a stored row from START to C2 or B2 are those of the layout that the two shapes and the lens have, by
+/// its names and in its order. The old version's view selects those of the old columns, and the new version's for each
+/// column that of the one which it carries, or its own.
+pub fn views_select_places()
+    ensures layout { PlacesAreTheLayouts }
+    ensures old { Selects old_view rolled_back_places }
+    ensures new { Selects new_view completed_places }
+{
+    trigger_pair::laws::pairs_are_long();
+}
+
+/// C2, C3 and B2 keep what a row has in each place that stays. After C2 the places are those of carried old columns and
+/// of new columns that aren't carried; after C3 those that the new version's view selects, in its order; and after B2
+/// those that the old version's view selects.
+pub fn steps_keep_places()
+    ensures removed { KeepsPlaces 2 paired_places trimmed_row_places }
+    ensures ordered { KeepsPlaces 3 trimmed_row_places completed_places }
+    ensures rolled_back { KeepsPlaces 5 paired_places rolled_back_places }
+{
+    trigger_pair::laws::pairs_are_long();
+}
 
 /// A row that is written between C1 and C2 is a filled row. C2 leaves of a filled row the carried values and the shadow
 /// values, and nothing else: the lost columns and the mark are gone.
 pub fn rows_are_stored_by_the_step()
     ensures leaving { LeavingRowsAreFilled }
     ensures trimmed { TrimmingLeavesTrimmed }
-{}
+{
+    trigger_pair::laws::pairs_are_long();
+}

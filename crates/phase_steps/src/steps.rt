@@ -13,7 +13,7 @@ use trigger_pair::parts::{begun_row, with_all};
 ///
 /// After START, which is 0, it is the row that is still to be filled; after C2, which is 2, and C3, which is 3, what
 /// `trimmed` and `trimmed_view` say; and after B2, which is 5, its old columns alone. C1 and B1, which are 1 and 4,
-/// change no stored row. An error is want of memory.
+/// change no stored row, and there are no other steps. An error is want of memory.
 pub fn restore(
     alloc: Global,
     step: u8,
@@ -22,13 +22,13 @@ pub fn restore(
     lens: &Lens,
     row: &[Value],
 ) -> Result<List<Value>, NoMemory>
-    requires { spec.changes_rows step ≡ true }
     ensures { IfOk result (λ stored. stored ≡ spec.restored step old.now new.now lens.now row.now) }
 {
     match step {
         0 => begun_row(alloc, lens, has_mark(lens), row),
         2 => trimmed(alloc, lens, row),
         3 => trimmed_view(alloc, lens, row),
-        _ => with_all(alloc, List::new(alloc), first(row, old.columns.len())),
+        5 => with_all(alloc, List::new(alloc), first(row, old.columns.len())),
+        _ => with_all(alloc, List::new(alloc), row),
     }
 }

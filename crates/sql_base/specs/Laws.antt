@@ -1,5 +1,5 @@
 -- Laws of truth values, of results and of rows that fit, which the proofs of each crate cite.
-use Rattle.std.specs.Prelude.{◌≡◌, ℕ, suc, Bool, true, false, ◌&&◌, List, [], ◌∷◌, length, slice_index_or, Option, Some, None, Result, Ok, Err, if◌then◌else◌, refl}
+use Rattle.std.specs.Prelude.{◌≡◌, suc, Bool, true, false, ◌&&◌, List, [], ◌∷◌, length, slice_index_or, Option, Some, None, Result, Ok, Err, if◌then◌else◌, refl}
 use Rattle.std.specs.Option.{option_or}
 use Rattle.std.proofs.Common.{ap}
 use Rattle.sql_base.specs.declared.shapes.Column.{Column}
@@ -7,7 +7,7 @@ use Rattle.sql_base.specs.declared.shapes.Shape.{Shape}
 use Rattle.sql_base.specs.declared.values.Value.{Value}
 use Rattle.sql_base.specs.declared.values.Value.TheVariants.{Null}
 use Rattle.sql_base.specs.Fit.{fits_columns, has_type, is_integer, row_fits}
-use Rattle.sql_base.specs.Outcome.{and_then, every}
+use Rattle.sql_base.specs.Outcome.{and_then}
 
 -- ---- truth values
 

@@ -1,5 +1,5 @@
 -- Typing wants no memory by its definition: by induction over the tree.
-use Rattle.std.proofs.Common.{◌≡◌, ◌≢◌, ℕ, List, [], ◌∷◌, Bool, true, false, Option, Some, None, Result, Ok, Err, if◌then◌else◌, map, subst}
+use Rattle.std.proofs.Common.{◌≢◌, ℕ, List, [], ◌∷◌, Bool, Option, Some, None, Result, Ok, Err, if◌then◌else◌, map, subst}
 use Rattle.sql_base.specs.declared.values.Ty.{Ty}
 use Rattle.sql_base.specs.declared.values.Ty.TheVariants as ty
 use Rattle.sql_base.specs.declared.exprs.Expr.{Expr}

@@ -7,7 +7,7 @@ use Rattle.sql_base.specs.declared.exprs.Expr.{Expr}
 use Rattle.sql_base.specs.declared.shapes.Shape.{Shape}
 use Rattle.sql_eval.specs.Value.{Outcome}
 use Rattle.sql_eval.specs.Eval.{eval, value_at, column_at}
-use Rattle.sql_eval.specs.Typing.{Typed, type_of, column_type, column_named}
+use Rattle.sql_eval.specs.Typing.{Typed, type_of}
 use Rattle.sql_base.specs.Fit.{has_type, fits_columns}
 use Rattle.sql_base.specs.Tree.{names_column}
 

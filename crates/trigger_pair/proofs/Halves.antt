@@ -1,5 +1,5 @@
 -- Halves that the lens makes of each other agree in what is carried; so do the values that a migration begins with.
-use Rattle.std.proofs.Common.{◌≡◌, ◌∙◌, ◌<◌, ℕ, zero, suc, ◌+◌, List, [], ◌∷◌, Bool, true, false, ◌&&◌, ◌==◌, Option, Some, None, Ok, length, map, ap, refl, sym, subst, arith}
+use Rattle.std.proofs.Common.{◌≡◌, ◌∙◌, ◌<◌, ℕ, zero, suc, ◌+◌, List, [], ◌∷◌, true, false, ◌&&◌, ◌==◌, Option, Some, None, Ok, length, map, ap, refl, sym, subst, arith}
 use Rattle.std.specs.Prelude.{slice_get, slice_index_or}
 use Rattle.std.proofs.lemmas.Bool.Decides.{nat_tests}
 use Rattle.std.proofs.lemmas.List.{length-map}
@@ -10,7 +10,7 @@ use Rattle.sql_base.specs.declared.shapes.Shape.{Shape}
 use Rattle.sql_base.specs.declared.values.Ty.{Ty}
 use Rattle.sql_base.specs.declared.values.Value.{Value}
 use Rattle.sql_base.specs.declared.values.Value.TheVariants.{Null}
-use Rattle.sql_base.specs.Fit.{fits_columns, has_type, is_integer, row_fits}
+use Rattle.sql_base.specs.Fit.{row_fits}
 use Rattle.sql_base.specs.Laws.{and_false, and_then_ok, and_true, both, row_long}
 use Rattle.sql_base.specs.Outcome.{and_then, every}
 use Rattle.mig_lens.specs.declared.columns.Cell.{Cell}
@@ -18,7 +18,7 @@ use Rattle.mig_lens.specs.declared.columns.Cell.TheVariants.{Carry}
 use Rattle.mig_lens.specs.Lens.{backward, carries, cell_fits, cells_fit, forward, is_carried_from, is_of_type, made, outcomes, unfilled, unfilled_value, value_before}
 use Rattle.mig_lens.specs.Laws.{BackwardCarries, ForwardCarries}
 use Rattle.trigger_pair.specs.declared.pairs.Pair.{Pair}
-use Rattle.trigger_pair.specs.Laws.{Agree, BegunRowsHold, FilledRowsHold, Holds, IsPair, NewWritesHold, OldWritesHold, PairsAreLong, StoredRowsHold}
+use Rattle.trigger_pair.specs.Laws.{BegunRowsHold, FilledRowsHold, Holds, IsPair, NewWritesHold, OldWritesHold, PairsAreLong, StoredRowsHold}
 use Rattle.trigger_pair.specs.Stored.{new_half, old_view, stored_row}
 use Rattle.trigger_pair.proofs.Places.{Alike, holds}
 

@@ -5,4 +5,4 @@ pub returns-clause-leaving : goal.returns-clause-leaving
 returns-clause-leaving c = leaving_rows_are_filled
 
 pub returns-clause-trimmed : goal.returns-clause-trimmed
-returns-clause-trimmed c = trimming_leaves_trimmed
+returns-clause-trimmed c = trimming_leaves_trimmed c.pairs_are_long.ensures
