@@ -1,7 +1,8 @@
+pub mod Demands
 pub mod Elements
 pub mod Keys
-pub mod Literals
-pub mod Padding
+pub mod Meant
 pub mod Relating
-pub mod Spelled
+pub mod Steps
 pub mod Texts
+pub mod Wanting

@@ -1,238 +1,134 @@
--- What stands for a migration has no fault and reads as it, and what has no fault stands for one.
-use Rattle.std.proofs.Common.{◌≡◌, ℕ, ◌≤◌, List, [], ◌∷◌, length, Bool, true, false, codes, Option, Some, None, is_some, unwrap_or, refl, sym, ◌∙◌, ap, subst, arith}
-use Rattle.std.specs.Prelude.{nat_le, ◌≢◌, Result, Ok, Err, IfOk, IfErr}
-use Rattle.std.specs.Option.{option_or}
-use Rattle.serde_json.specs.Data.{Data, Items, no_items, item, Members, null, boolean, number, string, array, object as object_of}
-use Rattle.serde_json.specs.Find.{get, as_str, as_object}
-use Rattle.sql_base.specs.declared.exprs.Expr.{Expr}
-use Rattle.sql_base.specs.declared.values.Ty.{Ty}
-use Rattle.sql_base.specs.declared.values.Ty.TheVariants.{Text}
-use Rattle.mig_lens.specs.declared.migrations.ColumnDef.{ColumnDef}
+-- What meets the demands stands for a migration, and what stands for one meets them.
+use Rattle.std.proofs.Common.{◌≡◌, ℕ, ◌≤◌, List, [], ◌∷◌, length, true, codes, Option, Some, None, inl, inr, refl, sym, ◌∙◌, ap, subst, arith}
+use Rattle.std.specs.Prelude.{nat_le}
+use Rattle.serde_json.specs.Data.{Data, Items, no_items, item, null, boolean, number, string, array, object as object_of}
+use Rattle.serde_json.specs.Find.{get}
+use Rattle.sql_base.specs.Tree.{depth}
+use Rattle.sql_parse.specs.Grammar.{IsText}
+use Rattle.sql_parse.specs.Laws as sql
 use Rattle.mig_lens.specs.declared.migrations.Migration.{Migration}
 use Rattle.mig_lens.specs.declared.migrations.Op.{Op}
-use Rattle.mig_json.specs.declared.members.Object.{Object}
-use Rattle.mig_json.specs.declared.members.Object.TheVariants as object
 use Rattle.mig_json.specs.declared.faults.JsonFault.{JsonFault}
-use Rattle.mig_json.specs.Expression.{expression_in}
-use Rattle.mig_json.specs.declared.faults.JsonFault.TheVariants.{NoMemory}
-use Rattle.mig_json.specs.Fault.{demand, Reads}
-use Rattle.mig_json.specs.Member.{is_of, are_known}
-use Rattle.mig_json.specs.Migration.{IsUp, IsColumn, IsAddColumn, IsOperation, IsMigration, IsReading, FaultlessTextsAreRead, ReadingsHaveNoFault, TextsReadOnce}
-use Rattle.mig_json.specs.Reading.{needs, may_have, within, is_text, is_true, has_type, has_expression, only_in, single, type_of, name_fault, type_fault, nullable_fault, up_fault, column_parts, column_fault, add_column_parts, operation_fault, migration_parts, migration_fault, text_fault, text_in, type_in, up_in, column_of, add_column_of, operation_of, migration_of, text_migration, max_text}
-use Rattle.mig_json.proofs.Spelled.{spelled_reads, read_is_spelled}
+use Rattle.mig_json.specs.Demand.{Demand, AreMet, inside}
+use Rattle.mig_json.specs.declared.faults.JsonFault.TheVariants.{Json}
+use Rattle.mig_json.specs.Kind.{needed, object, Is, demands as all}
+use Rattle.mig_json.specs.Migration.{IsOperation, IsMigration, IsReading, TextsReadOrFail, NeverBoth, TextsReadOnce, TextsFailOnce}
+use Rattle.mig_json.specs.Name.{is_name}
+use Rattle.mig_json.specs.declared.members.Object.TheVariants as kind
+use Rattle.mig_json.specs.Reading.{has_migration_name, is_of, json_in, only_in, single, operation_demands, migration_demands, text_demands, max_text}
+use Rattle.mig_json.specs.Table.{add_column, add_column_of}
+use Rattle.mig_json.proofs.Demands as demands
+use Rattle.mig_json.proofs.Meant.{named, met_is, is_met, is_once}
 
--- ---- what stands for a migration has no fault
+held : (demands : Data → List Demand) (fault : JsonFault) (o : Option Data) → AreMet (needed demands fault o) → (d : Data) × (o ≡ Some d) × AreMet (demands d)
+held demands fault None met = absurd cc
+held demands fault (Some d) met = (d, refl, met.1)
 
-known_object : (kind : Object) (ms : Option Members) → are_known kind ms ≡ true → is_some ms ≡ true
-known_object kind None h = cc
-known_object kind (Some ms) h = refl
+-- ---- an operation
 
-up_good : (at : ℕ) (o : Option Data) (up : Option Expr) → IsUp o up → (up_fault at o ≡ None) × (up_in o ≡ up)
-unfolding up_fault up_in
-up_good at None up h = (refl, sym h)
-up_good at (Some d) up (text, e, is, spells, made) = rw (is, spelled_reads text e spells, made) (refl, refl)
+met_operation : (at : ℕ) (d : Data) → AreMet (operation_demands at d) → (op : Op) × IsOperation d op
+unfolding operation_demands
+met_operation at d met =
+    let value = held (all (object add_column) at []) (inside at []) (get (codes "add_column") d) met.1 in
+    let is = met_is (object add_column) at [] value.0 value.2 in
+    (add_column_of is.0, record { known = met.0; value = value.0; held = value.1; members = is.0; are = is.1; is = refl })
 
-column_good : (at : ℕ) (d : Data) (c : ColumnDef) → IsColumn d c → column_fault at (Some d) ≡ None
-unfolding column_fault column_parts name_fault type_fault nullable_fault
-column_good at d c h =
-    rw (known_object object.Column (as_object d) h.known, h.known, h.named, h.is_name, h.typed, h.is_type, h.nullable) refl
+operation_met : (at : ℕ) (d : Data) (op : Op) → IsOperation d op → AreMet (operation_demands at d)
+unfolding operation_demands
+operation_met at d op h = (h.known, rw (h.held) (refl, is_met (object add_column) at [] h.value h.members h.are))
 
-column_reads : (d : Data) (c : ColumnDef) → IsColumn d c → column_of (Some d) ≡ c
-unfolding column_of text_in type_in
-column_reads d c h = rw (h.is, h.named, h.typed, h.is_type) refl
+same_value : (o : Option Data) (d e : Data) → o ≡ Some d → o ≡ Some e → e ≡ d
+same_value o d e h k = cc
 
-add_column_good : (at : ℕ) (d : Data) (op : Op) → IsAddColumn d op → add_column_parts at d ≡ None
-unfolding add_column_parts name_fault
-add_column_good at d op h =
-    rw (h.named, h.is_name, h.held, column_good at h.value h.column h.is_column, (up_good at (get (codes "up") d) h.up h.is_up).0) refl
+operation_once : sql.ReadsOnce IsText depth → (d : Data) (a b : Op) → IsOperation d a → IsOperation d b → a ≡ b
+operation_once law d a b h k =
+    let same : k.value ≡ h.value = same_value _ h.value k.value h.held k.held in
+    let are = subst (λ (v : Data). Is (object add_column) v k.members) same k.are in
+    h.is ∙ ap add_column_of (is_once law (object add_column) h.value h.members k.members h.are are) ∙ sym k.is
 
-add_column_reads : (d : Data) (op : Op) → IsAddColumn d op → add_column_of d ≡ op
-unfolding add_column_of text_in
-add_column_reads d op h =
-    rw (h.is, h.named, h.held, column_reads h.value h.column h.is_column, (up_good 0 (get (codes "up") d) h.up h.is_up).1) refl
-
-operation_good : (at : ℕ) (d : Data) (op : Op) → IsOperation d op → operation_fault at d ≡ None
-unfolding operation_fault
-operation_good at d op h = rw (h.known, h.held, h.is.known, add_column_good at h.value op h.is) refl
-
-operation_reads : (d : Data) (op : Op) → IsOperation d op → operation_of d ≡ op
-unfolding operation_of
-operation_reads d op h = rw h.held (add_column_reads h.value op h.is)
-
-migration_good : (d : Data) (m : Migration) → IsMigration d m → migration_fault d ≡ None
-unfolding migration_fault migration_parts single
-migration_good d m h = rw (h.known, h.named, h.is_name, h.held, operation_good 0 h.value h.operation h.is_operation) refl
-
-migration_reads : (d : Data) (m : Migration) → IsMigration d m → migration_of d ≡ m
-unfolding migration_of single text_in
-migration_reads d m h = rw (h.is, h.named, h.held, operation_reads h.value h.operation h.is_operation) refl
-
--- ---- what has no fault stands for a migration
-
-demand_holds : (b : Bool) (f : JsonFault) → demand b f ≡ None → b ≡ true
-demand_holds true f h = refl
-demand_holds false f h = cc
-
-neither : (a b : Option JsonFault) → option_or a b ≡ None → (a ≡ None) × (b ≡ None)
-neither None b h = (refl, h)
-neither (Some f) b h = cc
-
-found : {T : Type 0} (holds : T → Bool) (o : Option T) → needs holds o ≡ true → (x : T) × (o ≡ Some x) × (holds x ≡ true)
-found holds None h = cc
-found holds (Some x) h = (x, refl, h)
-
-some : {T : Type 0} (o : Option T) → is_some o ≡ true → (x : T) × (o ≡ Some x)
-some None h = cc
-some (Some x) h = (x, refl)
-
-named : (holds : List ℕ → Bool) (o : Option Data) → needs (λ d. needs holds (as_str d)) o ≡ true → (o ≡ Some (string (text_in o))) × (holds (text_in o) ≡ true)
-unfolding text_in
-named holds None h = cc
-named holds (Some null) h = cc
-named holds (Some (boolean b)) h = cc
-named holds (Some (number n)) h = cc
-named holds (Some (string s)) h = (refl, h)
-named holds (Some (array ds)) h = cc
-named holds (Some (object_of ms)) h = cc
-
-some_type : (o : Option Ty) → is_some o ≡ true → o ≡ Some (unwrap_or o Text)
-some_type None h = cc
-some_type (Some t) h = refl
-
-typed : (o : Option Data) → needs has_type o ≡ true → (t : List ℕ) × (o ≡ Some (string t)) × (type_of t ≡ Some (type_in o))
-unfolding type_in
-typed None h = cc
-typed (Some null) h = cc
-typed (Some (boolean b)) h = cc
-typed (Some (number n)) h = cc
-typed (Some (string s)) h = (s, refl, some_type (type_of s) h)
-typed (Some (array ds)) h = cc
-typed (Some (object_of ms)) h = cc
-
-nullable : (o : Option Data) → needs is_true o ≡ true → o ≡ Some (boolean true)
-nullable None h = cc
-nullable (Some null) h = cc
-nullable (Some (boolean true)) h = refl
-nullable (Some (boolean false)) h = cc
-nullable (Some (number n)) h = cc
-nullable (Some (string s)) h = cc
-nullable (Some (array ds)) h = cc
-nullable (Some (object_of ms)) h = cc
-
-made : (text : List ℕ) (o : Option Expr) → expression_in text ≡ o → is_some o ≡ true → IsUp (Some (string text)) o
-made text None e h = cc
-made text (Some up) e h = (text, up, refl, read_is_spelled text up e, refl)
-
-up_exact : (o : Option Data) → may_have is_text o ≡ true → may_have has_expression o ≡ true → IsUp o (up_in o)
-unfolding up_in
-up_exact None kind h = refl
-up_exact (Some null) kind h = cc
-up_exact (Some (boolean b)) kind h = cc
-up_exact (Some (number n)) kind h = cc
-up_exact (Some (string s)) kind h = made s (expression_in s) refl h
-up_exact (Some (array ds)) kind h = cc
-up_exact (Some (object_of ms)) kind h = cc
+-- ---- a migration
 
 alone : (ds : Items) (d : Data) → only_in ds ≡ Some d → ds ≡ item d no_items
-alone no_items d h = cc
+alone no_items d h = absurd cc
 alone (item e no_items) d h = cc
-alone (item e (item f ds)) d h = cc
+alone (item e (item f ds)) d h = absurd cc
 
 single_exact : (o : Option Data) (d : Data) → single o ≡ Some d → o ≡ Some (array (item d no_items))
 unfolding single
-single_exact None d h = cc
-single_exact (Some null) d h = cc
-single_exact (Some (boolean b)) d h = cc
-single_exact (Some (number n)) d h = cc
-single_exact (Some (string s)) d h = cc
-single_exact (Some (array ds)) d h = ap (λ items. Some (array items)) (alone ds d h)
-single_exact (Some (object_of ms)) d h = cc
+single_exact None d h = absurd cc
+single_exact (Some null) d h = absurd cc
+single_exact (Some (boolean b)) d h = absurd cc
+single_exact (Some (number n)) d h = absurd cc
+single_exact (Some (string s)) d h = absurd cc
+single_exact (Some (array ds)) d h = ap (λ (items : Items). Some (array items)) (alone ds d h)
+single_exact (Some (object_of ms)) d h = absurd cc
 
-column_exact : (at : ℕ) (d : Data) → column_fault at (Some d) ≡ None → IsColumn d (column_of (Some d))
-unfolding column_fault column_parts name_fault type_fault nullable_fault column_of
-column_exact at d h =
-    let kind = neither _ _ h in
-    let known = neither _ _ kind.1 in
-    let parts = neither _ _ (neither _ _ known.1).0 in
-    let rest = neither _ _ parts.1 in
-    let type = neither _ _ rest.0 in
-    let name = named _ _ (demand_holds _ _ parts.0) in
-    let ty = typed _ (demand_holds _ _ (neither _ _ type.1).0) in
-    record {
-      known = demand_holds _ _ known.0;
-      name = text_in (get (codes "name") d);
-      named = name.0;
-      is_name = name.1;
-      type = ty.0;
-      typed = ty.1;
-      ty = type_in (get (codes "type") d);
-      is_type = ty.2;
-      nullable = nullable _ (demand_holds _ _ (neither _ _ rest.1).0);
-      is = refl;
-    }
+single_of : (o : Option Data) (d : Data) → o ≡ Some (array (item d no_items)) → single o ≡ Some d
+unfolding single
+single_of o d h = rw h refl
 
-column_there : (at : ℕ) (o : Option Data) → column_fault at o ≡ None → (d : Data) × (o ≡ Some d) × IsColumn d (column_of o)
-unfolding column_fault
-column_there at None h = cc
-column_there at (Some d) h = (d, refl, column_exact at d h)
+name_in : (o : Option Data) → has_migration_name o ≡ true → (x : List ℕ) × (o ≡ Some (string x)) × (is_name x ≡ true)
+name_in None h = absurd cc
+name_in (Some d) h = let it = named is_name d h in (it.0, ap Some it.1, it.2)
 
-add_column_exact : (at : ℕ) (d : Data) → is_of object.AddColumn d ≡ true → add_column_parts at d ≡ None → IsAddColumn d (add_column_of d)
-unfolding add_column_parts name_fault up_fault add_column_of
-add_column_exact at d known h =
-    let parts = neither _ _ h in
-    let rest = neither _ _ parts.1 in
-    let name = named _ _ (demand_holds _ _ parts.0) in
-    let column = column_there at (get (codes "column") d) rest.0 in
-    let up = neither _ _ (neither _ _ rest.1).0 in
-    record {
+met_migration : (d : Data) → AreMet (migration_demands d) → (m : Migration) × IsMigration d m
+unfolding migration_demands
+met_migration d met =
+    let name = name_in (get (codes "name") d) met.1.0 in
+    let value = held (operation_demands 0) (Json (codes "operations")) (single (get (codes "operations") d)) met.1.1 in
+    let operation = met_operation 0 value.0 value.2 in (
+      record { name = name.0; operations = operation.0 ∷ [] },
+      record {
+        known = met.0;
+        name = name.0;
+        named = name.1;
+        is_name = name.2;
+        value = value.0;
+        held = single_exact _ value.0 value.1;
+        operation = operation.0;
+        is_operation = operation.1;
+        is = refl;
+      },
+    )
+
+migration_met : (d : Data) (m : Migration) → IsMigration d m → AreMet (migration_demands d)
+unfolding migration_demands
+migration_met d m h =
+    let one : single (get (codes "operations") d) ≡ Some h.value = single_of _ h.value h.held in
+    (h.known, (rw (h.named) (h.is_name), rw one (refl, operation_met 0 h.value h.operation h.is_operation)))
+
+same_name : (o : Option Data) (x y : List ℕ) → o ≡ Some (string x) → o ≡ Some (string y) → x ≡ y
+same_name o x y h k = cc
+
+same_only : (o : Option Data) (x y : Data) → o ≡ Some (array (item x no_items)) → o ≡ Some (array (item y no_items)) → y ≡ x
+same_only o x y h k = cc
+
+migration_once : sql.ReadsOnce IsText depth → (d : Data) (a b : Migration) → IsMigration d a → IsMigration d b → a ≡ b
+migration_once law d a b h k =
+    let names : h.name ≡ k.name = same_name _ h.name k.name h.named k.named in
+    let values : k.value ≡ h.value = same_only _ h.value k.value h.held k.held in
+    let again = subst (λ (v : Data). IsOperation v k.operation) values k.is_operation in
+    let operations : h.operation ≡ k.operation = operation_once law h.value h.operation k.operation h.is_operation again in
+    cc (h.is, k.is, names, operations)
+
+-- a migration that was read member by member
+pub made : (d : Data) (names operations : Option Data) (name : List ℕ) (value : Data) (operation : Op) (list : List Op) →
+    is_of kind.Migration d ≡ true → names ≡ get (codes "name") d → names ≡ Some (string name) → is_name name ≡ true →
+    operations ≡ get (codes "operations") d → single operations ≡ Some value → IsOperation value operation → list ≡ operation ∷ [] →
+    AreMet (migration_demands d) × IsMigration d (record { name = name; operations = list })
+made d names operations name value operation list known e named is_name f one is g =
+    let h : IsMigration d (record { name = name; operations = list }) = record {
       known = known;
-      table = text_in (get (codes "table") d);
-      named = name.0;
-      is_name = name.1;
-      value = column.0;
-      held = column.1;
-      column = column_of (get (codes "column") d);
-      is_column = column.2;
-      up = up_in (get (codes "up") d);
-      is_up = up_exact _ (demand_holds _ _ up.0) (demand_holds _ _ (neither _ _ up.1).0);
-      is = refl;
-    }
-
-operation_exact : (at : ℕ) (d : Data) → operation_fault at d ≡ None → IsOperation d (operation_of d)
-unfolding operation_fault operation_of
-operation_exact at d h =
-    let kind = neither _ _ h in
-    let held = neither _ _ kind.1 in
-    let value = found _ _ (demand_holds _ _ held.0) in
-    let parts : add_column_parts at value.0 ≡ None = ap (within (add_column_parts at)) (sym value.1) ∙ (neither _ _ held.1).0 in
-    record {
-      known = demand_holds _ _ kind.0;
-      value = value.0;
-      held = value.1;
-      is = subst (λ o. IsAddColumn value.0 (add_column_of (unwrap_or o null))) (sym value.1) (add_column_exact at value.0 value.2 parts);
-    }
-
-migration_exact : (d : Data) → migration_fault d ≡ None → IsMigration d (migration_of d)
-unfolding migration_fault migration_parts migration_of
-migration_exact d h =
-    let kind = neither _ _ h in
-    let parts = neither _ _ (neither _ _ kind.1).0 in
-    let name = named _ _ (demand_holds _ _ parts.0) in
-    let held = neither _ _ parts.1 in
-    let value = some _ (demand_holds _ _ held.0) in
-    let operation : operation_fault 0 value.0 ≡ None = ap (within (operation_fault 0)) (sym value.1) ∙ (neither _ _ held.1).0 in
-    let made_of : Option Data → Migration = λ o. record { name = text_in (get (codes "name") d); operations = operation_of (unwrap_or o null) ∷ [] } in
-    record {
-      known = demand_holds _ _ kind.0;
-      name = text_in (get (codes "name") d);
-      named = name.0;
-      is_name = name.1;
-      value = value.0;
-      held = single_exact _ value.0 value.1;
-      operation = operation_of value.0;
-      is_operation = operation_exact 0 value.0 operation;
-      is = ap made_of value.1;
-    }
+      name = name;
+      named = sym e ∙ named;
+      is_name = is_name;
+      value = value;
+      held = sym f ∙ single_exact operations value one;
+      operation = operation;
+      is_operation = is;
+      is = rw g refl;
+    } in
+    (migration_met d _ h, h)
 
 -- ---- texts
 
@@ -242,34 +138,27 @@ fits n h = grind arith
 short : (n : ℕ) → n ≤ max_text → nat_le n max_text ≡ true
 short n h = grind arith
 
-pub text_exact : (text : List ℕ) → text_fault text ≡ None → IsReading text (text_migration text)
-unfolding text_fault text_migration
-text_exact text h =
-    let length_fits = neither _ _ h in
-    let kind = neither _ _ length_fits.1 in
-    let value = some _ (demand_holds _ _ kind.0) in
-    let migration : migration_fault value.0 ≡ None = ap (within migration_fault) (sym value.1) ∙ (neither _ _ kind.1).0 in
-    record {
-      short = fits (length text) (demand_holds _ _ length_fits.0);
-      value = value.0;
-      json = value.1;
-      is = subst (λ o. IsMigration value.0 (migration_of (unwrap_or o null))) (sym value.1) (migration_exact value.0 migration);
-    }
+pub met_text : (text : List ℕ) → AreMet (text_demands text) → (m : Migration) × IsReading text m
+unfolding text_demands
+met_text text met =
+    let value = held migration_demands (Json (codes "$")) (json_in text) met.1 in
+    let migration = met_migration value.0 value.2 in
+    (migration.0, record { short = fits (length text) met.0; value = value.0; json = value.1; is = migration.1 })
 
-pub faultless_texts_are_read : FaultlessTextsAreRead
-faultless_texts_are_read text h = (text_migration text, text_exact text h)
+pub text_met : (text : List ℕ) (m : Migration) → IsReading text m → AreMet (text_demands text)
+unfolding text_demands
+text_met text m h = (short (length text) h.short, rw (h.json) (refl, migration_met h.value m h.is))
 
-pub readings_have_no_fault : ReadingsHaveNoFault
-unfolding text_fault
-readings_have_no_fault text m h = rw (short (length text) h.short, h.json, migration_good h.value m h.is) refl
+pub texts_read_or_fail : sql.TextsReadOrFail IsText depth → sql.NeverBoth IsText depth → TextsReadOrFail
+texts_read_or_fail either never text = elim (demands.decided either never (text_demands text)) [ inl met ↦ inl (met_text text met) | inr fails ↦ inr fails ]
 
-text_reads : (text : List ℕ) (m : Migration) → IsReading text m → text_migration text ≡ m
-unfolding text_migration
-text_reads text m h = rw h.json (migration_reads h.value m h.is)
+pub texts_never_both : NeverBoth
+texts_never_both text m f h k = demands.never_both (text_demands text) f (text_met text m h) k
 
-pub texts_read_once : TextsReadOnce
-texts_read_once text a b first second = sym (text_reads text a first) ∙ text_reads text b second
+pub texts_read_once : sql.ReadsOnce IsText depth → TextsReadOnce
+texts_read_once law text a b h k =
+    let values : k.value ≡ h.value = same_value _ h.value k.value h.json k.json in
+    migration_once law h.value a b h.is (subst (λ (v : Data). IsMigration v b) values k.is)
 
-pub reads_exactly : (text : List ℕ) (result : Result Migration JsonFault) → Reads (text_fault text) (text_migration text) result → IfOk result (IsReading text) × IfErr result (λ f. f ≢ NoMemory → text_fault text ≡ Some f)
-reads_exactly text (Ok m) h = (subst (IsReading text) (sym h.1) (text_exact text h.0), tt)
-reads_exactly text (Err f) h = (tt, h)
+pub texts_fail_once : TextsFailOnce
+texts_fail_once text f g h k = demands.fails_once (text_demands text) f g h k

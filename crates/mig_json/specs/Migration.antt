@@ -1,66 +1,30 @@
 -- The texts that are migrations, as a relation between a JSON value and what it stands for.
-use Rattle.std.specs.Prelude.{◌≡◌, ℕ, ◌≤◌, List, [], ◌∷◌, true, false, codes, length, Option, Some, None}
-use Rattle.serde_json.specs.Data.{Data, boolean, string, array, no_items, item}
+use Rattle.std.specs.Prelude.{◌≡◌, ◌≢◌, ◌⊎◌, ℕ, ◌≤◌, List, [], ◌∷◌, true, codes, length, Some}
+use Rattle.serde_json.specs.Data.{Data, string, array, no_items, item}
 use Rattle.serde_json.specs.Find.{get}
-use Rattle.sql_base.specs.declared.exprs.Expr.{Expr}
-use Rattle.sql_base.specs.declared.values.Ty.{Ty}
-use Rattle.sql_base.specs.declared.values.Value.TheVariants.{Null}
-use Rattle.mig_lens.specs.declared.migrations.ColumnDef.{ColumnDef}
 use Rattle.mig_lens.specs.declared.migrations.Migration.{Migration}
 use Rattle.mig_lens.specs.declared.migrations.Op.{Op}
-use Rattle.mig_lens.specs.declared.migrations.Op.TheVariants.{AddColumn}
-use Rattle.mig_json.specs.declared.members.Object.TheVariants as object
-use Rattle.mig_json.specs.Member.{is_of}
-use Rattle.mig_json.specs.Name.{is_name, is_part_name}
-use Rattle.mig_json.specs.Reading.{type_of, json_in, text_fault, max_text}
-use Rattle.mig_json.specs.Spelling.{Spells}
-
--- a column that takes NULL, and of which nothing else is said
-abbrev pub nullable_column : List ℕ → Ty → ColumnDef
-nullable_column name ty = record { name = name; ty = ty; nullable = true; pk = false; unique = false; default = Null; check = None }
-
--- the value is this column
-pub record IsColumn (d : Data) (column : ColumnDef) : Type 0 where
-  pub known : is_of object.Column d ≡ true
-  pub name : List ℕ
-  pub named : get (codes "name") d ≡ Some (string name)
-  pub is_name : is_part_name name ≡ true
-  pub type : List ℕ
-  pub typed : get (codes "type") d ≡ Some (string type)
-  pub ty : Ty
-  pub is_type : type_of type ≡ Some ty
-  pub nullable : get (codes "nullable") d ≡ Some (boolean true)
-  pub is : column ≡ nullable_column name ty
-
--- an `up` that is absent is none, and one that is there is a text that spells this expression
-abbrev pub IsUp : Option Data → Option Expr → Type 0
-IsUp None up = up ≡ None
-IsUp (Some d) up = (text : List ℕ) × (e : Expr) × (d ≡ string text) × Spells text e × (up ≡ Some e)
-
--- the value is what `add_column` holds
-pub record IsAddColumn (d : Data) (op : Op) : Type 0 where
-  pub known : is_of object.AddColumn d ≡ true
-  pub table : List ℕ
-  pub named : get (codes "table") d ≡ Some (string table)
-  pub is_name : is_part_name table ≡ true
-  pub value : Data
-  pub held : get (codes "column") d ≡ Some value
-  pub column : ColumnDef
-  pub is_column : IsColumn value column
-  pub up : Option Expr
-  pub is_up : IsUp (get (codes "up") d) up
-  pub is : op ≡ AddColumn table column up
+use Rattle.mig_json.specs.declared.faults.JsonFault.{JsonFault}
+use Rattle.mig_json.specs.declared.faults.JsonFault.TheVariants.{NoMemory}
+use Rattle.mig_json.specs.declared.members.Object.TheVariants as kind
+use Rattle.mig_json.specs.Demand.{FirstUnmet}
+use Rattle.mig_json.specs.Kind.{ValuesOf, Is, object}
+use Rattle.mig_json.specs.Name.{is_name}
+use Rattle.mig_json.specs.Reading.{is_of, json_in, text_demands, max_text}
+use Rattle.mig_json.specs.Table.{add_column, add_column_of}
 
 -- the value is this operation, under its name
 pub record IsOperation (d : Data) (op : Op) : Type 0 where
-  pub known : is_of object.Operation d ≡ true
+  pub known : is_of kind.Operation d ≡ true
   pub value : Data
   pub held : get (codes "add_column") d ≡ Some value
-  pub is : IsAddColumn value op
+  pub members : ValuesOf add_column
+  pub are : Is (object add_column) value members
+  pub is : op ≡ add_column_of members
 
 -- the value is this migration, which so far has one operation
 pub record IsMigration (d : Data) (m : Migration) : Type 0 where
-  pub known : is_of object.Migration d ≡ true
+  pub known : is_of kind.Migration d ≡ true
   pub name : List ℕ
   pub named : get (codes "name") d ≡ Some (string name)
   pub is_name : is_name name ≡ true
@@ -70,21 +34,32 @@ pub record IsMigration (d : Data) (m : Migration) : Type 0 where
   pub is_operation : IsOperation value operation
   pub is : m ≡ record { name = name; operations = operation ∷ [] }
 
--- the text reads as this migration
+-- The text reads as this migration.
 pub record IsReading (text : List ℕ) (m : Migration) : Type 0 where
   pub short : length text ≤ max_text
   pub value : Data
   pub json : json_in text ≡ Some value
   pub is : IsMigration value m
 
--- a text without a fault reads as a migration
-abbrev pub FaultlessTextsAreRead : Type 0
-FaultlessTextsAreRead = (text : List ℕ) → text_fault text ≡ None → (m : Migration) × IsReading text m
+-- The text's first fault is this one.
+abbrev pub Fails : List ℕ → JsonFault → Type 0
+Fails text fault = FirstUnmet (text_demands text) fault
 
--- a text that reads as a migration has no fault
-abbrev pub ReadingsHaveNoFault : Type 0
-ReadingsHaveNoFault = (text : List ℕ) (m : Migration) → IsReading text m → text_fault text ≡ None
+-- Each text reads as a migration or has a first fault.
+abbrev pub TextsReadOrFail : Type 0
+TextsReadOrFail = (text : List ℕ) → ((m : Migration) × IsReading text m) ⊎ ((f : JsonFault) × Fails text f)
 
--- a text reads as one migration at most
+-- No text does both.
+abbrev pub NeverBoth : Type 0
+NeverBoth = (text : List ℕ) (m : Migration) (f : JsonFault) → IsReading text m → Fails text f → ⊥
+
+-- A text reads as one migration at most, and has one first fault at most.
 abbrev pub TextsReadOnce : Type 0
 TextsReadOnce = (text : List ℕ) (a b : Migration) → IsReading text a → IsReading text b → a ≡ b
+
+abbrev pub TextsFailOnce : Type 0
+TextsFailOnce = (text : List ℕ) (f g : JsonFault) → Fails text f → Fails text g → f ≡ g
+
+-- Want of memory is the fault of no text.
+abbrev pub FaultsWantNothing : Type 0
+FaultsWantNothing = (text : List ℕ) (f : JsonFault) → Fails text f → f ≢ NoMemory

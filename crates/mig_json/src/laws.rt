@@ -1,10 +1,15 @@
 //! The laws of reading. They are the contract of a function that does nothing.
 
-ghost use Rattle.mig_json.specs.Migration.{FaultlessTextsAreRead, ReadingsHaveNoFault, TextsReadOnce};
+ghost use Rattle.mig_json.specs.Migration.{TextsReadOrFail, NeverBoth, TextsReadOnce, TextsFailOnce, FaultsWantNothing};
 
-/// A text has no fault exactly where it reads as a migration, and it reads as one at most.
-pub fn texts_without_fault_are_migrations()
-    ensures read { FaultlessTextsAreRead }
-    ensures faultless { ReadingsHaveNoFault }
-    ensures once { TextsReadOnce }
-{}
+/// A text has a first fault exactly where it reads as no migration; it has one at most, and reads as one at most. Want of
+/// memory is the fault of no text.
+pub fn texts_read_or_fail()
+    ensures either { TextsReadOrFail }
+    ensures never_both { NeverBoth }
+    ensures reads_once { TextsReadOnce }
+    ensures fails_once { TextsFailOnce }
+    ensures wants_nothing { FaultsWantNothing }
+{
+    sql_parse::texts_read_or_fail();
+}

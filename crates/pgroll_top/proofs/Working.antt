@@ -4,7 +4,7 @@ use Rattle.std.specs.Io.KnownBytes.{Appends}
 use Rattle.std.proofs.lemmas.List.{take_more, take-append-drop}
 use Rattle.pg_io.specs.Outside.{Known}
 use Rattle.pg_io.specs.Laws.{appends_none}
-use Rattle.mig_json.specs.Migration.{FaultlessTextsAreRead}
+use Rattle.mig_json.specs.Migration.{TextsReadOrFail}
 use Rattle.script_text.specs.declared.lines.Line.{Line}
 use Rattle.machine.specs.declared.events.Entry.{Entry}
 use Rattle.machine.specs.declared.tasks.Task.{Task}
@@ -80,7 +80,7 @@ module _ (lines : List Line) (at : ℕ) (line : Line) (mid new : Lane) (before m
       )
 
   -- the work stopped in it
-  pub worked_stopped : FaultlessTextsAreRead → LinesReadOrFail → (stop : Stop) → DoesLine mid new (record { before = middle; after = now; faults_before = b; faults_after = c }) line (Err stop)
+  pub worked_stopped : TextsReadOrFail → LinesReadOrFail → (stop : Stop) → DoesLine mid new (record { before = middle; after = now; faults_before = b; faults_after = c }) line (Err stop)
       → (h : List Entry) × IsHistory h × Works beginning lines (record { before = before; after = now; faults_before = a; faults_after = c }) (Err stop) h
   worked_stopped law reads stop (one, asks, (entries, advances, tells, begins)) =
       let told = tells_more {T = Unit {0}} before middle now a b c history entries (Err stop) w.written w.quiet tells in
@@ -113,7 +113,7 @@ worked_all lines at now output history end w = (
 )
 
 -- no line is done, for want of memory
-pub stopped_at_once : FaultlessTextsAreRead → LinesReadOrFail → (lines : List Line) (told : Option (List ℕ)) (a : ℕ) → (h : List Entry) × IsHistory h × Works beginning lines (record { before = told; after = told; faults_before = a; faults_after = a }) (Err NoMemory) h
+pub stopped_at_once : TextsReadOrFail → LinesReadOrFail → (lines : List Line) (told : Option (List ℕ)) (a : ℕ) → (h : List Entry) × IsHistory h × Works beginning lines (record { before = told; after = told; faults_before = a; faults_after = a }) (Err NoMemory) h
 stopped_at_once law reads lines told a =
     let tasks = some_tasks law reads lines in
     ([], (beginning, (refl, refl)), ((tasks.0, tasks.1, begins_none numbers (first_path beginning) tasks.0), ([], inl refl, appends_none told, refl)))

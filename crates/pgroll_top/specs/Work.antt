@@ -1,7 +1,6 @@
 -- Histories, and what it means that a history does the work of an input.
-use Rattle.std.specs.Prelude.{◌≡◌, ◌⊎◌, ◌≤◌, ◌<◌, ℕ, List, [], ◌∷◌, ◌++◌, Bool, true, false, Result, Ok, Some, codes, length}
+use Rattle.std.specs.Prelude.{◌≡◌, ◌⊎◌, ◌≤◌, ◌<◌, ℕ, List, [], ◌∷◌, ◌++◌, Bool, true, false, Result, Ok, codes, length}
 use Rattle.std.specs.List.{list_any}
-use Rattle.std.specs.Option.{option_map}
 use Rattle.sql_base.specs.declared.faults.ScriptFault.{ScriptFault}
 use Rattle.sql_parse.specs.declared.faults.ParseFault.{ParseFault}
 use Rattle.sql_parse.specs.declared.faults.ParseFault.TheVariants as parse
@@ -11,8 +10,7 @@ use Rattle.mig_lens.specs.declared.faults.Refusal.{Refusal}
 use Rattle.mig_lens.specs.declared.faults.Refusal.TheVariants as refusal
 use Rattle.mig_json.specs.declared.faults.JsonFault.{JsonFault}
 use Rattle.mig_json.specs.declared.faults.JsonFault.TheVariants as fault
-use Rattle.mig_json.specs.Migration.{IsReading}
-use Rattle.mig_json.specs.Reading.{text_fault}
+use Rattle.mig_json.specs.Migration.{IsReading, Fails}
 use Rattle.script_text.specs.declared.lines.Line.{Line}
 use Rattle.script_text.specs.declared.lines.Line.TheVariants.{Text, Command}
 use Rattle.script_text.specs.declared.lines.Order.TheVariants as order
@@ -99,7 +97,7 @@ refusal_of fault.NoMemory = refusal.Limit []
 -- What the text of a migration asks for: the migration that it reads as, or, where it reads as none, nothing, for its first fault.
 abbrev pub AsksFor : List ℕ → Asked → Type 0
 AsksFor text (Migrates migration) = IsReading text migration
-AsksFor text (NotRead refusal) = option_map refusal_of (text_fault text) ≡ Some refusal
+AsksFor text (NotRead refusal) = (f : JsonFault) × Fails text f × (refusal_of f ≡ refusal)
 
 -- What a line asks for.
 abbrev pub IsTask : Line → Task → Type 0

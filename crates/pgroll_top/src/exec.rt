@@ -20,7 +20,7 @@ pub fn work<K: Sink>(alloc: Global, lines: &[Line], out: &mut K) -> Result<bool,
     ensures later { K.faults out.old ≤ K.faults out.new }
 {
     machine::laws::states_stand();
-    mig_json::laws::texts_without_fault_are_migrations();
+    mig_json::laws::texts_read_or_fail();
     sql_parse::statements_read_or_fail();
     let mut lane = Lane::new(alloc)?;
     for line in lines {

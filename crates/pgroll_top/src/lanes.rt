@@ -136,7 +136,7 @@ impl Lane {
         ensures few { self.new.number ≤ self.old.number + 1 }
         ensures later { K.faults out.old ≤ K.faults out.new }
     {
-        mig_json::laws::texts_without_fault_are_migrations();
+        mig_json::laws::texts_read_or_fail();
         let cmd = Cmd::Start(asked(alloc, text)?);
         let reply = self.core.ddl(&cmd)?;
         self.tell(alloc, "control", &reply, out)

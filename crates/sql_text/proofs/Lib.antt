@@ -1,5 +1,6 @@
 pub mod Canonical
 pub mod Doubled
+pub mod Identified
 pub mod Lexemes
 pub mod Literals
 pub mod Numbers

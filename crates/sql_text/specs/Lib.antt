@@ -1,3 +1,4 @@
+pub mod Identifier
 pub mod Keys
 pub mod Laws
 pub mod Lexing

@@ -1,5 +1,6 @@
 //! Laws of the definitions.
 
+ghost use Rattle.sql_text.specs.Identifier.{IdentifiersAreNames};
 ghost use Rattle.sql_text.specs.Laws.{TextHasItsTokens, TokensAreProper, TokensEnd, PlacesAreInside, LiteralsAreDoubled};
 
 /// The law that the canonical text of an expression has the tokens that the expression is written as.
@@ -25,4 +26,9 @@ pub fn places_are_inside()
 /// The law that a text literal is read exactly where its value stands with each quote written twice.
 pub fn literals_are_doubled()
     ensures { LiteralsAreDoubled }
+{}
+
+/// The law that an identifier is one token of its text, and that a name.
+pub fn identifiers_are_names()
+    ensures { IdentifiersAreNames }
 {}

@@ -15,7 +15,7 @@ use sql_base::{List, Name, NoMemory, SqlText};
 use std::alloc::Global;
 
 /// The bytes that an identifier may have.
-const MAX_NAME: usize = 63;
+pub const MAX_NAME: usize = 63;
 
 /// The bytes that the value of a text literal may have.
 const MAX_TEXT: usize = 4096;
@@ -33,7 +33,8 @@ fn number(digits: &[u8]) -> u64
     n
 }
 
-fn folded(alloc: Global, word: &[u8]) -> Result<Name, NoMemory>
+/// The word with ASCII capitals as small letters.
+pub fn folded(alloc: Global, word: &[u8]) -> Result<Name, NoMemory>
     ensures { IfOk result (λ name. name ≡ str_to_ascii_lowercase word.now) }
 {
     let mut small = Vec::from_slice(alloc, word)?;
@@ -51,8 +52,9 @@ fn word_token(alloc: Global, word: &[u8]) -> Result<Token, NoMemory>
     }
 }
 
+/// Whether small letters, digits and `_` are an identifier.
 #[tactic(auto, unfolding(crate::specs::Lexing::is_name))]
-fn is_name(word: &[u8]) -> bool
+pub fn is_name(word: &[u8]) -> bool
     requires { list_all spec.is_small_byte word.now ≡ true }
     ensures { result ≡ spec.is_name word.now }
 {

@@ -47,6 +47,13 @@ impl Class {
         self.count(text)
     }
 
+    /// Whether all bytes are of this kind.
+    pub fn fills(self, text: &[u8]) -> bool
+        ensures { result ≡ list_all (spec.belongs self) text.now }
+    {
+        text.iter().all(|byte| self.has(*byte))
+    }
+
     /// Whether a byte of this kind comes first.
     pub fn begins(self, text: &[u8]) -> bool
         ensures { result ≡ spec.begins (spec.belongs self) text.now }

@@ -1,6 +1,6 @@
 //! Texts and their tokens, and how expressions and values are written.
 
-use crate::{Token, lex, print_expr, print_value};
+use crate::{Token, lex, name_in, print_expr, print_value};
 use sql_base::{Arm, BinOp, Expr, Func, Name, NoMemory, SqlText, Ty, Value};
 use sqlite_items::{Boxed, Items};
 use std::alloc::Global;
@@ -214,5 +214,44 @@ fn values_are_written_so(rt: HostRuntime) -> Result<(), Fail> {
     assert!(rt; print_value(alloc, &escapes)?.as_slice() == b"a\\\\b\\|c\\nd\\re'".as_slice());
     assert!(rt; print_value(alloc, &Value::Bool(true))?.as_slice() == b"true".as_slice());
     assert!(rt; print_value(alloc, &Value::Bool(false))?.as_slice() == b"false".as_slice());
+    Ok(())
+}
+
+// Each text, and the name that it is an identifier of, or nothing.
+const IDENTIFIERS: [(&str, &str); 17] = [
+    ("users", "users"),
+    ("Users_1", "users_1"),
+    ("_", "_"),
+    ("\"to\"", "to"),
+    ("\"_1\"", "_1"),
+    (
+        "a23456789012345678901234567890123456789012345678901234567890123",
+        "a23456789012345678901234567890123456789012345678901234567890123",
+    ),
+    (
+        "a234567890123456789012345678901234567890123456789012345678901234",
+        "",
+    ),
+    ("to", ""),
+    ("Where", ""),
+    ("\"Users\"", ""),
+    ("1a", ""),
+    ("\"1a\"", ""),
+    ("", ""),
+    ("\"", ""),
+    ("\"\"", ""),
+    (" a", ""),
+    ("\"a", ""),
+];
+
+#[test]
+fn identifiers_are_read_so(rt: HostRuntime) -> Result<(), Fail> {
+    for (text, wanted) in IDENTIFIERS {
+        let found = match name_in(rt.alloc(), text.as_bytes())? {
+            Some(name) => String::from_str(rt.alloc(), str::from_utf8(name.as_slice())?)?,
+            None => String::new(rt.alloc()),
+        };
+        assert_eq!(rt; found.as_str(), wanted, "{text}");
+    }
     Ok(())
 }

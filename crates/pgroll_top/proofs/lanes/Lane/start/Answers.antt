@@ -9,7 +9,7 @@ use Rattle.pgroll_top.proofs.lanes.Lane.start.Goals as goal
 pub returns-in_err-asked-clause-does : goal.returns-in_err-asked-clause-does
 returns-in_err-asked-clause-does g c =
     let p = err_from_is_err_and c.from_residual.result c.from_residual.ensures.1 in
-    let asked = some_asked c.texts_without_fault_are_migrations.ensures.read c.args.text.now in
+    let asked = some_asked c.texts_read_or_fail.ensures.either c.args.text.now in
     rw (p.1, p.2) (asked.0, asked.1, none_done c.args.self.now c.args.self.now.core refl _ _ (task.Start asked.0))
 
 pub returns-in_err-reply-clause-does : goal.returns-in_err-reply-clause-does
