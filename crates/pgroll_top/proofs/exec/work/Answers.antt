@@ -1,6 +1,13 @@
+use Rattle.std.proofs.Common.{[], subst, sym}
 use Rattle.std.proofs.lemmas.Result.{err_from_is_err_and}
-use Rattle.pgroll_top.proofs.Working.{stopped_at_once, worked_more, worked_stopped}
+use Rattle.pg_io.specs.Outside.{known}
+use Rattle.pgroll_top.proofs.Working.{Worked, no_work, stopped_at_once, worked_more, worked_stopped}
 use Rattle.pgroll_top.proofs.exec.work.Goals as goal
+
+pub loop-line-init : goal.loop-line-init
+loop-line-init g c =
+    let output = known g.K.Sink.held g.K.Sink.faults c.args.out.now c.args.out.now in
+    ([], subst (λ lane. Worked c.args.lines.now 0 lane output []) (sym c.in_ok-lane.ensures) (no_work c.args.lines.now _ _))
 
 pub returns-in_err-lane-clause-works : goal.returns-in_err-lane-clause-works
 returns-in_err-lane-clause-works g c =
