@@ -10,7 +10,7 @@
 //! - **The slot's home.** The value is in the slot, or the slot is out with the seat that knows its turn. At home the value stands for the counted history and for the one base.
 //! - **The counted history.** It has `count` entries. Only the seat that knows its turn makes it longer, and it keeps a copy of it until it leaves.
 //! - **Seen lists.** What each seat has seen is a beginning of the counted history, and no entry past it carries one of the seat's places.
-//! - **Places.** The numbers from 0 to one below the number of seats are given out, each once, and each seat that hasn't ended has one at least.
+//! - **Places.** The numbers from 0 to one below the number of seats are given out, each once. Each seat that hasn't ended has one at least, and one that has ended has none.
 //! - **The base.** Each seat that hasn't ended knows the same base.
 //!
 //! # The steps

@@ -30,10 +30,10 @@ pub struct Run {
 }
 
 // A latch and its two seats.
-struct Both {
-    latch: Latch<Desk>,
-    first: Seat<Desk>,
-    second: Seat<Desk>,
+pub(crate) struct Both {
+    pub(crate) latch: Latch<Desk>,
+    pub(crate) first: Seat<Desk>,
+    pub(crate) second: Seat<Desk>,
 }
 
 // Adds an amount in one turn.
@@ -85,7 +85,7 @@ fn add_each<R: Wait>(
 }
 
 // The same with a seat that goes with the thread.
-fn add_all<R: Wait>(
+pub(crate) fn add_all<R: Wait>(
     rt: &R,
     latch: &Latch<Desk>,
     mut seat: Seat<Desk>,
@@ -101,7 +101,7 @@ fn add_all<R: Wait>(
     (seat, told)
 }
 
-fn open_both(alloc: Global, desk: Desk) -> Result<Both, Desk>
+pub(crate) fn open_both(alloc: Global, desk: Desk) -> Result<Both, Desk>
     ensures latch { IfOk result (λ b. (b.latch.first ≡ desk) × (b.latch.seats ≡ 2)) }
     ensures first { IfOk result (λ b. IsNew base_of b.latch 0 desk.history.items b.first) }
     ensures second { IfOk result (λ b. IsNew base_of b.latch 1 desk.history.items b.second) }

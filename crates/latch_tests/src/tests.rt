@@ -1,4 +1,4 @@
-use crate::{Desk, Entry, add_by_two, reopen};
+use crate::{Desk, Entry, add_by_two, add_while_held, reopen};
 use std::test::Fail;
 
 // The amounts of a seat's entries, in their order, and nothing of others.
@@ -48,5 +48,23 @@ fn closing_all_seats_gives_the_desk_back(rt: HostRuntime) -> Result<(), Fail> {
         panic!(rt; "no memory")
     };
     assert_eq!(rt; (desk.base, desk.history.len()), (7, 1));
+    Ok(())
+}
+
+// The second thread has gone to wait before the first seat leaves, and is woken by that.
+#[test]
+fn a_seat_that_waits_is_woken(rt: HostRuntime) -> Result<(), Fail> {
+    let desk = Desk {
+        base: 7,
+        history: Vec::new(rt.alloc()),
+    };
+    let Ok(waited) = add_while_held(&rt, rt.alloc(), desk, &[5, 6]) else {
+        panic!(rt; "no memory")
+    };
+    assert_eq!(rt;
+        (waited.desk.base, waited.told.added, waited.told.seen),
+        (7, 2, 2)
+    );
+    assert!(rt; has_in_order(waited.desk.history.as_slice(), 1, &[5, 6]));
     Ok(())
 }

@@ -1,10 +1,10 @@
 -- What holds of the machine's steps and runs.
-use Rattle.std.specs.Prelude.{◌≡◌, ◌<◌, ◌≤◌, ◌==◌, ℕ, Bool, true, false, List, None, Ok, is_none, sum_by, if◌then◌else◌}
-use Rattle.std.specs.List.{count_by}
+use Rattle.std.specs.Prelude.{◌≡◌, ◌<◌, ◌≤◌, ◌==◌, ℕ, Bool, true, false, List, None, Ok, is_none, sum_by, if◌then◌else◌, Option, Some}
+use Rattle.std.specs.List.{count_by, AllByRecursion}
 use Rattle.sql_base.specs.declared.shapes.Shape.{Shape}
 use Rattle.sql_base.specs.declared.values.Value.{Value}
 use Rattle.mig_lens.specs.declared.columns.Lens.{Lens}
-use Rattle.mig_lens.specs.declared.columns.Side.TheVariants.{Old}
+use Rattle.mig_lens.specs.declared.columns.Side.TheVariants.{New, Old}
 use Rattle.mig_lens.specs.declared.faults.Kind.{Kind}
 use Rattle.mig_lens.specs.declared.faults.Kind.TheVariants as kind
 use Rattle.mig_lens.specs.declared.faults.Refusal.{Refusal}
@@ -18,13 +18,16 @@ use Rattle.row_rules.specs.declared.kinds.Kept.{Kept}
 use Rattle.machine.specs.declared.states.State.{State}
 use Rattle.mig_lens.specs.Layout.{has_mark}
 use Rattle.mig_lens.specs.Lens.{forward, unfilled}
-use Rattle.row_rules.specs.Site.{shown}
-use Rattle.machine.specs.State.{Found, beginning, site_of}
+use Rattle.row_rules.specs.Site.{shown, Beside, Site, number_of, shape_of}
+use Rattle.machine.specs.State.{Found, beginning, site_of, Shared, rows_of, shared, table_of}
 use Rattle.machine.specs.Lawful.{IsLawful}
 use Rattle.machine.specs.Follows.{goes_on_completing, goes_on_filling}
-use Rattle.machine.specs.Standing.{IsState}
-use Rattle.machine.specs.Statement.{max_rows}
+use Rattle.machine.specs.Standing.{IsState, Ascends, RowStands, RowsStand}
+use Rattle.machine.specs.Statement.{max_rows, Shows, Writes, begun}
 use Rattle.machine.specs.Step.{IsPlainStep, LaneRun, LaneStep, Run, Step}
+use Rattle.row_rules.specs.Changes.{after_changes, changes}
+use Rattle.machine.specs.Sites.{ChangeAgrees, ChangeStands, HalvesAgree, JobStands, PairStands, SiteRow, SiteStands, TableStands}
+use Rattle.machine.specs.Words.{Change, Expr, Items, Job, Stmt}
 
 -- A step leads from such a state to such a state.
 abbrev pub StepsKeepStates : Type 0
@@ -114,3 +117,49 @@ StepsLeaveFewer = (s : State) (reply : Reply) (t : State) → Step s event.Compl
 -- They are between one and three.
 abbrev pub StepsAreFew : Type 0
 StepsAreFew = (s : State) → (1 ≤ steps_due s) × (steps_due s ≤ 3)
+
+-- ---- tables, sites and rows of a state that stands
+
+-- A table that a path finds stands, and so does its site.
+abbrev pub FoundStands : Type 0
+FoundStands = (s : State) (path : List (List ℕ)) (name : List ℕ) (found : Found) → IsState s → table_of s path name ≡ Some found → TableStands s found × SiteStands (site_of s found)
+
+-- The site of a statement that writes is that of a table that stands, and its job is one whose names and types are settled.
+abbrev pub WritesStand : Type 0
+WritesStand = (s : State) (path : List (List ℕ)) (stmt : Stmt) (site : Site) (what : Job) → IsState s → begun s path stmt ≡ Ok (Writes site what) → (found : Found) × (site ≡ site_of s found) × TableStands s found × JobStands (shape_of site.here) what
+
+-- So is that of a statement that shows.
+abbrev pub ShowsStand : Type 0
+ShowsStand = (s : State) (path : List (List ℕ)) (stmt : Stmt) (site : Site) (items : Items) (condition : Option Expr) → IsState s → begun s path stmt ≡ Ok (Shows site items condition) → (found : Found) × (site ≡ site_of s found) × TableStands s found
+
+-- A table that both versions have joins them.
+abbrev pub SharedStands : Type 0
+SharedStands = (s : State) (number : ℕ) (pair : Shared) → IsState s → shared s number ≡ Some pair → PairStands s number pair
+
+-- The site through which its rows are filled stands.
+abbrev pub FillingStands : Type 0
+FillingStands = (s : State) (number : ℕ) (pair : Shared) → IsState s → shared s number ≡ Some pair → (number_of pair.new ≡ number) × TableStands s (record { side = New; table = pair.new })
+
+-- The rows of a number ascend and stand.
+abbrev pub RowsStandBy : Type 0
+RowsStandBy = (s : State) (number : ℕ) → IsState s → Ascends (rows_of s number) × RowsStand s number (rows_of s number)
+
+-- A row of a table stands on its site.
+abbrev pub RowsOnSites : Type 0
+RowsOnSites = (s : State) (found : Found) (row : Kept) → IsState s → TableStands s found → RowStands s (number_of found.table) row → SiteRow (λ lost. Unit {0}) (site_of s found) row
+
+-- Each row that the changes of a job put stands, where the rows that they are made of do.
+abbrev pub ChangesKeep : Type 0
+ChangesKeep =
+    (s : State) (found : Found) (what : Job) (older : List Kept) (all : List Change) → IsState s → TableStands s found → JobStands (shape_of found.table) what → AllByRecursion (SiteRow (λ lost. Unit {0}) (site_of s found)) older →
+    changes (site_of s found) what older ≡ Ok all → AllByRecursion (ChangeStands (λ lost. Unit {0}) (site_of s found)) all
+
+-- Rows that ascend do so after changes.
+abbrev pub ChangedRowsAscend : Type 0
+ChangedRowsAscend = (all : List Change) (rows : List Kept) → Ascends rows → Ascends (after_changes all rows)
+
+-- In the rows that a job puts carried columns agree, where they do in the rows that it is done to.
+abbrev pub ChangesAgree : Type 0
+ChangesAgree =
+    (site : Site) (beside : Beside) (what : Job) (older : List Kept) (all : List Change) → SiteStands site → site.there ≡ Some beside → AllByRecursion (λ row. HalvesAgree beside.lens row.halves) older →
+    changes site what older ≡ Ok all → AllByRecursion (ChangeAgrees beside.lens) all

@@ -1,9 +1,11 @@
+pub mod Below
 pub mod Done
 pub mod Follows
 pub mod Lawful
 pub mod Laws
 pub mod Migrate
 pub mod Plain
+pub mod Sites
 pub mod Standing
 pub mod State
 pub mod Statement

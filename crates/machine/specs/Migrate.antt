@@ -217,17 +217,17 @@ lost_in_table fates table =
 -- The new version alone stands, with two steps of tidying left.
 abbrev pub completed : State → List ℕ → Schema → List (ℕ × Fate) → State
 completed s name schema fates =
-  let tables = completed_tables schema fates s.tables in
-  record {
-    version = name;
-    schema = schema;
-    mode = Calm;
-    left = 2;
-    kind = kind.Complete;
-    next_table = s.next_table;
-    tables = tables;
-    lost_columns = filter_map (lost_in_table fates) tables;
-  }
+    let tables = completed_tables schema fates s.tables in
+    record {
+      version = name;
+      schema = schema;
+      mode = Calm;
+      left = 2;
+      kind = kind.Complete;
+      next_table = s.next_table;
+      tables = tables;
+      lost_columns = filter_map (lost_in_table fates) tables;
+    }
 
 -- A step of completing is done.
 abbrev pub stepped : ℕ → State → Done

@@ -2,8 +2,15 @@
 #![tactic(auto)]
 
 mod events;
+mod fill;
+pub mod laws;
 pub mod parts;
+mod refusals;
+mod replies;
+mod rows;
+mod start;
 mod start_state;
+mod statement;
 mod states;
 mod tables;
 mod tasks;

@@ -249,3 +249,14 @@ pub fn site_of<'a>(s: &'a State, found: FoundTable<'a>) -> SiteRef<'a>
         lost: lost_columns_of(s, found.table.1) as u64,
     }
 }
+
+/// The site through which rows of a table that both versions have are filled: the new version's.
+pub fn filling_site<'a>(s: &'a State, pair: SharedTable<'a>) -> SiteRef<'a>
+    ensures { sites.site_of result ≡ spec.filling_site s.now (plain.pair pair.entry) }
+{
+    let found = FoundTable {
+        side: Side::New,
+        table: pair.new,
+    };
+    site_of(s, found)
+}

@@ -1,5 +1,5 @@
 -- Laws of known bytes, of counts of faults and of limits, which the proofs of each crate cite.
-use Rattle.std.proofs.Common.{◌≡◌, ◌≢◌, ◌⊎◌, ℕ, ◌+◌, ◌-◌, ◌<◌, ◌≤◌, List, [], ◌++◌, length, take, drop, Option, None, Some, Result, Ok, Err, IsOk, IsErrOf, IfOk, inl, inr, sym, refl, ap, ◌∙◌, arith, append_assoc, append-nil, length-drop, length-append}
+use Rattle.std.proofs.Common.{◌≡◌, ◌⊎◌, ℕ, ◌≤◌, List, [], ◌++◌, length, Option, None, Some, Result, Ok, Err, IsOk, IsErrOf, IfOk, inl, inr, sym, refl, ap, ◌∙◌, arith, append_assoc, append-nil, length-append}
 use Rattle.std.specs.Io.KnownBytes.{Appends, Consumes, Keeps}
 use Rattle.pg_io.specs.declared.whole.InputFault.{InputFault}
 use Rattle.pg_io.specs.declared.whole.InputFault.TheVariants.{Failed, TooLong, NoMemory}

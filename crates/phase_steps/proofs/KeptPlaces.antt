@@ -23,16 +23,16 @@ use Rattle.phase_steps.proofs.WrittenRows.{carried_cell, carry_carries}
 
 -- ---- places of these cells, the first of which has this number
 
-abbrev own_from : ℕ → List Cell → List Place
+abbrev pub own_from : ℕ → List Cell → List Place
 own_from at cells = map (λ column. Own column.0) (enumerate_from at cells)
 
-abbrev carried_from : ℕ → List Cell → List Place
+abbrev pub carried_from : ℕ → List Cell → List Place
 carried_from at cells = map (λ column. Own column.0) (filter (λ column. is_carry column.1) (enumerate_from at cells))
 
-abbrev shadows_from : ℕ → List Cell → List Place
+abbrev pub shadows_from : ℕ → List Cell → List Place
 shadows_from at cells = map (λ column. Shadow column.0) (filter (λ column. is_shadow column.1) (enumerate_from at cells))
 
-abbrev new_from : ℕ → List Cell → List Place
+abbrev pub new_from : ℕ → List Cell → List Place
 new_from at cells = map new_place (enumerate_from at cells)
 
 abbrev shadows_before : List Cell → ℕ → ℕ
@@ -40,13 +40,13 @@ shadows_before cells i = length (filter is_shadow (take i cells))
 
 -- ---- numbers
 
-same : (at : ℕ) → (at == at + 0) ≡ true
+pub same : (at : ℕ) → (at == at + 0) ≡ true
 same at = grind (arith, nat_tests)
 
-other : (at i : ℕ) → (at == at + suc i) ≡ false
+pub other : (at i : ℕ) → (at == at + suc i) ≡ false
 other at i = grind (arith, nat_tests)
 
-next_number : (at i : ℕ) → at + 1 + i ≡ at + suc i
+pub next_number : (at i : ℕ) → at + 1 + i ≡ at + suc i
 next_number at i = omega arith
 
 -- ---- what stands in a place
@@ -240,7 +240,7 @@ rolling_back_keeps_places lengths pair row p long =
     ap (λ n. take n row) (sym (lengths pair p).0) ∙ own_row (value_in (paired_places pair) row) 0 pair.lens.old_cols row (is_wide pair row long).old (paired_owns pair row)
 
 -- a carried column's cell says that it is carried
-carried_back : (pair : Pair) → IsPair pair → (i j : ℕ) → slice_get pair.lens.new_cols i ≡ Some (Carry j) → slice_get pair.lens.old_cols j ≡ Some (Carry i)
+pub carried_back : (pair : Pair) → IsPair pair → (i j : ℕ) → slice_get pair.lens.new_cols i ≡ Some (Carry j) → slice_get pair.lens.old_cols j ≡ Some (Carry i)
 carried_back pair p i j e = carried_cell pair.lens.old_cols j i (sym (p.lens.both_ways i j) ∙ carry_carries pair.lens.new_cols i j e)
 
 pub ordering_keeps_places : KeepsPlaces 3 trimmed_row_places completed_places

@@ -1,4 +1,5 @@
 pub mod CompletedRows
 pub mod KeptPlaces
+pub mod RemovedPlaces
 pub mod StoredRows
 pub mod WrittenRows

@@ -1,12 +1,12 @@
 -- What the version that stands shows of its stored rows while a migration is completed or rolled back.
-use Rattle.std.specs.Prelude.{◌≡◌, ℕ, true, List, Some, length, map}
+use Rattle.std.specs.Prelude.{◌≡◌, ℕ, true, List, Some, filter, length, map}
 use Rattle.sql_base.specs.declared.values.Value.{Value}
 use Rattle.sql_base.specs.Fit.{row_fits}
 use Rattle.trigger_pair.specs.declared.pairs.Pair.{Pair}
 use Rattle.trigger_pair.specs.Laws.{IsPair}
 use Rattle.trigger_pair.specs.Rows.{IsFilledRow}
 use Rattle.trigger_pair.specs.Stored.{new_view}
-use Rattle.phase_steps.specs.Places.{Place, named, paired_places, value_in}
+use Rattle.phase_steps.specs.Places.{Place, is_among, named, paired_places, value_in}
 use Rattle.phase_steps.specs.Rows.{IsTrimmedRow, leaving_row, restored, trimmed, trimmed_view}
 
 -- A row that is written between C1 and C2 shows the values that were written, and has a value for each place of the layout.
@@ -32,6 +32,10 @@ abbrev pub KeepsPlaces : ℕ → (Pair → List Place) → (Pair → List Place)
 KeepsPlaces step before after =
     (pair : Pair) (row : List Value) → IsPair pair → length row ≡ length (before pair) →
     restored step pair.old pair.new pair.lens row ≡ map (value_in (before pair) row) (after pair)
+
+-- Of the places before it C2 leaves those that the new version's view selects, and B2 those that the old version's view selects.
+abbrev pub Leaves : (Pair → List Place) → (Pair → List Place) → Type 0
+Leaves after selected = (pair : Pair) → IsPair pair → after pair ≡ filter (is_among (selected pair)) (paired_places pair)
 
 -- The places from START to C2 or B2 are those of the layout, by its names and in its order.
 abbrev pub PlacesAreTheLayouts : Type 0

@@ -1,6 +1,6 @@
 -- Which places the stored rows of a table have that both versions have, before a step and after it.
 use Rattle.std.specs.Prelude.{ℕ, Bool, true, false, ◌==◌, List, [], ◌∷◌, ◌++◌, codes, filter, map, slice_get, Option, Some, if◌then◌else◌}
-use Rattle.std.specs.List.{enumerate_from}
+use Rattle.std.specs.List.{enumerate_from, list_any}
 use Rattle.std.specs.Option.{option_map}
 use Rattle.sql_base.specs.declared.shapes.Column.{Column}
 use Rattle.sql_base.specs.declared.values.Ty.TheVariants as ty
@@ -71,6 +71,10 @@ completed_places pair = new_places pair.lens.new_cols
 -- After B2: those that the old version's view selects.
 abbrev pub rolled_back_places : Pair → List Place
 rolled_back_places pair = old_places pair.lens.old_cols
+
+-- whether a place is one of these
+abbrev pub is_among : List Place → Place → Bool
+is_among places wanted = list_any (λ place. same_place place wanted) places
 
 -- ---- their names
 

@@ -1,5 +1,5 @@
 //! The laws of the steps. Each is the contract of a function that does nothing.
-ghost use Rattle.phase_steps.specs.Laws.{CompletedRowsShow, KeepsPlaces, LeavingRowsAreFilled, LeavingRowsShow, PlacesAreTheLayouts, Selects, TrimmingKeepsView, TrimmingLeavesTrimmed};
+ghost use Rattle.phase_steps.specs.Laws.{CompletedRowsShow, KeepsPlaces, Leaves, LeavingRowsAreFilled, LeavingRowsShow, PlacesAreTheLayouts, Selects, TrimmingKeepsView, TrimmingLeavesTrimmed};
 ghost use Rattle.trigger_pair.specs.Stored.{new_view, old_view};
 ghost use Rattle.phase_steps.specs.Places.{completed_places, paired_places, rolled_back_places, trimmed_row_places};
 
@@ -31,12 +31,14 @@ pub fn views_select_places()
 }
 
 /// C2, C3 and B2 keep what a row has in each place that stays. After C2 the places are those of carried old columns and
-/// of new columns that aren't carried; after C3 those that the new version's view selects, in its order; and after B2
-/// those that the old version's view selects.
+/// of new columns that aren't carried, which are those of before that the new version's view selects; after C3 they are
+/// the same in that view's order; and after B2 those that the old version's view selects.
 pub fn steps_keep_places()
     ensures removed { KeepsPlaces 2 paired_places trimmed_row_places }
     ensures ordered { KeepsPlaces 3 trimmed_row_places completed_places }
     ensures rolled_back { KeepsPlaces 5 paired_places rolled_back_places }
+    ensures completing_leaves { Leaves trimmed_row_places completed_places }
+    ensures rolling_back_leaves { Leaves rolled_back_places rolled_back_places }
 {
     trigger_pair::laws::pairs_are_long();
 }

@@ -34,7 +34,7 @@ apart_filter p (lock ∷ locks) h = apart_more p lock locks (p lock) refl (all_f
 -- ---- taking
 
 -- the lock doesn't hold any part of the reach
-abbrev IsPast : ℕ → Reach → Lock → Type 0
+abbrev pub IsPast : ℕ → Reach → Lock → Type 0
 IsPast table reach lock = meets table reach lock ≡ false
 
 past_more : (table : ℕ) (reach : Reach) (lock : Lock) (locks : List Lock) (b : Bool) → meets table reach lock ≡ b → holder (lock ∷ locks) table reach ≡ None

@@ -1,2 +1,3 @@
 pub mod Holders
 pub mod Keeping
+pub mod Changes

@@ -55,5 +55,5 @@ size (Keys keys) = length keys
 size Table = 1
 
 -- the locks without those of a ticket
-abbrev pub released : ℕ → List Lock → List Lock
-released ticket locks = filter (λ lock. not (lock.ticket == ticket)) locks
+abbrev pub locks_without : ℕ → List Lock → List Lock
+locks_without ticket locks = filter (λ lock. not (lock.ticket == ticket)) locks

@@ -70,7 +70,7 @@ fn has_ticket(locks: &[Lock], ticket: u64) -> bool
 }
 
 /// The number of tickets that have a lock.
-pub fn open_tickets(locks: &[Lock]) -> u32
+pub fn open_count(locks: &[Lock]) -> u32
     requires { length locks.now < 2 ^ 32 }
     ensures { result ≡ length (spec.open_tickets locks.now) }
 {
@@ -103,7 +103,7 @@ pub fn push_each(locks: &mut Vec<Lock>, ticket: u64, table: u32, keys: &[i64])
 
 /// The locks of the ticket go.
 pub fn release_all(locks: &mut Vec<Lock>, ticket: u64)
-    ensures items { locks.new.items ≡ spec.released ticket locks.old.items }
+    ensures items { locks.new.items ≡ spec.locks_without ticket locks.old.items }
     ensures len { vec_len locks.new ≤ vec_len locks.old }
     ensures room { vec_capacity locks.new ≡ vec_capacity locks.old }
 {

@@ -2,6 +2,7 @@
 #![tactic(auto)]
 
 mod finding;
+pub mod laws;
 mod locks;
 
 pub use locks::{Lock, Locks, Reach};

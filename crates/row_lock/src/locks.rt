@@ -2,7 +2,7 @@
 ghost use Rattle.std.specs.Prelude.{◌≡◌, ◌+◌, ◌≤◌, [], ◌++◌, length, None, OnOk, OnErr};
 ghost use Rattle.row_lock.specs.Holding as spec;
 
-use crate::finding::{holder_of_keys, holder_of_table, open_tickets, push_each, release_all};
+use crate::finding::{holder_of_keys, holder_of_table, open_count, push_each, release_all};
 use sql_base::{List, NoMemory};
 use std::alloc::Global;
 use std::marker::Model;
@@ -120,7 +120,7 @@ impl Locks {
 
     /// Gives up all that the ticket holds.
     pub fn release(&mut self, ticket: u64)
-        ensures locks { self.new.locks ≡ spec.released ticket self.old.locks }
+        ensures locks { self.new.locks ≡ spec.locks_without ticket self.old.locks }
         ensures kept { self.old.spare ≤ self.new.spare }
     {
         release_all(&mut self.locks, ticket);
@@ -130,7 +130,7 @@ impl Locks {
     pub fn open_count(&self) -> u32
         ensures { result ≡ length (spec.open_tickets self.now.locks) }
     {
-        open_tickets(self.locks.as_slice())
+        open_count(self.locks.as_slice())
     }
 
     /// Shows that no key is held by two tickets, and that there are at most `MOST_LOCKS` locks. It does nothing.

@@ -17,22 +17,22 @@ turned false x y = refl
 
 module _ {X : Type 0} where
   -- the map of these entries
-  abbrev pub meant : List (ℤ × X) → map.FinMap int_cmp X
-  meant entries = map.from_sorted {R = int_cmp} entries
+  abbrev pub map_of : List (ℤ × X) → map.FinMap int_cmp X
+  map_of entries = map.from_sorted {R = int_cmp} entries
 
-  pub entries_meant : (entries : List (ℤ × X)) → Rises entries → map.entries (meant entries) ≡ entries
-  entries_meant entries h = map.entries-from_sorted int_cmp entries (holds _ h)
+  pub entries-map_of : (entries : List (ℤ × X)) → Rises entries → map.entries (map_of entries) ≡ entries
+  entries-map_of entries h = map.entries-from_sorted int_cmp entries (holds _ h)
 
-  pub get_meant : (entries : List (ℤ × X)) (key : ℤ) → Rises entries → map.get (meant entries) key ≡ map.find int_cmp key entries
-  get_meant entries key h = map.get-from_sorted int_cmp entries key (holds _ h)
+  pub get-map_of : (entries : List (ℤ × X)) (key : ℤ) → Rises entries → map.get (map_of entries) key ≡ map.find int_cmp key entries
+  get-map_of entries key h = map.get-from_sorted int_cmp entries key (holds _ h)
 
-  pub len_meant : (entries : List (ℤ × X)) → Rises entries → map.len (meant entries) ≡ length entries
-  len_meant entries h = map.len-entries (meant entries) ∙ ap length (entries_meant entries h)
+  pub len-map_of : (entries : List (ℤ × X)) → Rises entries → map.len (map_of entries) ≡ length entries
+  len-map_of entries h = map.len-entries (map_of entries) ∙ ap length (entries-map_of entries h)
 
-  pub empty_meant : (entries : List (ℤ × X)) → entries ≡ [] → meant entries ≡ map.empty
-  empty_meant entries e = ap meant e ∙ map.empty_of_len (meant []) (len_meant [] refl)
+  pub empty-map_of : (entries : List (ℤ × X)) → entries ≡ [] → map_of entries ≡ map.empty
+  empty-map_of entries e = ap map_of e ∙ map.empty_of_len (map_of []) (len-map_of [] refl)
 
-  rises : (entries : List (ℤ × X)) → T (map.is_sorted int_cmp entries) → Rises entries
+  pub rises : (entries : List (ℤ × X)) → T (map.is_sorted int_cmp entries) → Rises entries
   rises entries h = by_test (map.is_sorted int_cmp entries) h
     where
       by_test : (b : Bool) → T b → b ≡ true
@@ -42,21 +42,21 @@ module _ {X : Type 0} where
   pub put_rises : (key : ℤ) (value : X) (entries : List (ℤ × X)) → Rises entries → Rises (map.put int_cmp key value entries)
   put_rises key value entries h = rises (map.put int_cmp key value entries) (is_sorted-put int_cmp int_cmp_total key value entries (holds _ h))
 
-  pub put_meant : (key : ℤ) (value : X) (entries : List (ℤ × X)) → Rises entries → meant (map.put int_cmp key value entries) ≡ map.insert (meant entries) key value
-  put_meant key value entries h =
-      map.same_entries_map _ _ (entries_meant (map.put int_cmp key value entries) (put_rises key value entries h)
-      ∙ sym (map.entries-insert int_cmp_total (meant entries) key value ∙ ap (map.put int_cmp key value) (entries_meant entries h)))
+  pub put-map_of : (key : ℤ) (value : X) (entries : List (ℤ × X)) → Rises entries → map_of (map.put int_cmp key value entries) ≡ map.insert (map_of entries) key value
+  put-map_of key value entries h =
+      map.same_entries_map _ _ (entries-map_of (map.put int_cmp key value entries) (put_rises key value entries h)
+      ∙ sym (map.entries-insert int_cmp_total (map_of entries) key value ∙ ap (map.put int_cmp key value) (entries-map_of entries h)))
 
   pub without_rises : (key : ℤ) (entries : List (ℤ × X)) → Rises entries → Rises (without key entries)
   without_rises key entries h = rises (without key entries) (is_sorted-where_key int_cmp (λ other. not (eq_by_cmp int_cmp key other)) entries (holds _ h))
 
-  pub without_meant : (key : ℤ) (entries : List (ℤ × X)) → Rises entries → meant (without key entries) ≡ map.remove (meant entries) key
-  without_meant key entries h = map.same_map int_cmp_total map.int_cmp-IsAntisymmetric _ _ (λ q.
-      get_meant (without key entries) q (without_rises key entries h)
+  pub without-map_of : (key : ℤ) (entries : List (ℤ × X)) → Rises entries → map_of (without key entries) ≡ map.remove (map_of entries) key
+  without-map_of key entries h = map.same_map int_cmp_total map.int_cmp-IsAntisymmetric _ _ (λ q.
+      get-map_of (without key entries) q (without_rises key entries h)
       ∙ find-where_key int_cmp (λ other. not (eq_by_cmp int_cmp key other)) q (λ x t. ap (λ r. not (is_eq r)) (sym (alike q x t))) entries
       ∙ turned (eq_by_cmp int_cmp key q) _ _
       ∙ ap (λ b. cond b None (map.find int_cmp q entries)) (int_same key q)
-      ∙ sym (map.get-remove int_cmp_total (meant entries) key q ∙ ap (cond (eq_by_cmp int_cmp q key) None) (get_meant entries q h)))
+      ∙ sym (map.get-remove int_cmp_total (map_of entries) key q ∙ ap (cond (eq_by_cmp int_cmp q key) None) (get-map_of entries q h)))
     where
       alike : (q x : ℤ) → int_cmp q x ≡ Equal → int_cmp key q ≡ int_cmp key x
       alike q x t = ap (int_cmp key) (int_ranked q x Equal (sym t))

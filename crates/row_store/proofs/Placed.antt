@@ -18,7 +18,7 @@ right_true : (a b : Bool) → (a && b) ≡ true → b ≡ true
 right_true true b h = h
 right_true false b h = absurd (cc)
 
-less : (o : Ordering) → is_lt o ≡ true → o ≡ Less
+pub less : (o : Ordering) → is_lt o ≡ true → o ≡ Less
 less Less h = refl
 less Equal h = absurd (cc)
 less Greater h = absurd (cc)
@@ -28,13 +28,13 @@ is_got [] at d h = absurd (omega arith)
 is_got (first ∷ xs) zero d h = refl
 is_got (first ∷ xs) (suc at) d h = is_got xs at d (omega arith)
 
-cmp_flips : (x y : ℤ) → int_cmp x y ≡ Greater → int_cmp y x ≡ Less
+pub cmp_flips : (x y : ℤ) → int_cmp x y ≡ Greater → int_cmp y x ≡ Less
 cmp_flips x y h = int_cmp_total.antisymm y x ∙ ap ordering_reverse h
 
 same_key : (x y : ℤ) → int_cmp x y ≡ Equal → x ≡ y
 same_key x y h = int_ranked x y Equal (sym h)
 
-flips_back : (x y : ℤ) → int_cmp x y ≡ Less → int_cmp y x ≡ Greater
+pub flips_back : (x y : ℤ) → int_cmp x y ≡ Less → int_cmp y x ≡ Greater
 flips_back x y h = int_cmp_total.antisymm y x ∙ ap ordering_reverse h
 
 module _ {X : Type 0} where
@@ -44,7 +44,7 @@ module _ {X : Type 0} where
   abbrev IsBelow : ℤ → List (ℤ × X) → Type 0
   IsBelow key entries = below_all int_cmp key entries ≡ true
 
-  first_below : (entry : ℤ × X) (entries : List (ℤ × X)) → Rises (entry ∷ entries) → IsBelow entry.0 entries
+  pub first_below : (entry : ℤ × X) (entries : List (ℤ × X)) → Rises (entry ∷ entries) → IsBelow entry.0 entries
   first_below entry entries h = left_true (below_all int_cmp entry.0 entries) (is_sorted int_cmp entries) h
 
   pub rest_rises : (entry : ℤ × X) (entries : List (ℤ × X)) → Rises (entry ∷ entries) → Rises entries
@@ -106,10 +106,10 @@ module _ {X : Type 0} where
 
   -- ---- what is found
 
-  absent_more : (key : ℤ) (entry : ℤ × X) (entries : List (ℤ × X)) → int_cmp key entry.0 ≡ Less → find int_cmp key entries ≡ None → find int_cmp key (entry ∷ entries) ≡ None
+  pub absent_more : (key : ℤ) (entry : ℤ × X) (entries : List (ℤ × X)) → int_cmp key entry.0 ≡ Less → find int_cmp key entries ≡ None → find int_cmp key (entry ∷ entries) ≡ None
   absent_more key entry entries k there = rw k there
 
-  absent_below : (key other : ℤ) (entries : List (ℤ × X)) → int_cmp key other ≡ Less → IsBelow other entries → find int_cmp key entries ≡ None
+  pub absent_below : (key other : ℤ) (entries : List (ℤ × X)) → int_cmp key other ≡ Less → IsBelow other entries → find int_cmp key entries ≡ None
   absent_below key other [] k h = refl
   absent_below key other (entry ∷ entries) k h =
       absent_more key entry entries (int_cmp_total.trans key other entry.0 k (below_first other entry entries h)) (absent_below key other entries k (below_rest other entry entries h))

@@ -55,7 +55,8 @@ pub fn put(rows: &mut Vec<Entry>, key: i64, row: List<Value>) -> Option<List<Val
 pub fn take(rows: &mut Vec<Entry>, key: i64) -> Option<List<Value>>
     requires { map.is_sorted int_cmp rows.old.items ≡ true }
     ensures former { result ≡ map.find int_cmp key rows.old.items }
-    ensures items { rows.new.items ≡ where_key int_cmp (λ other. not (eq_by_cmp int_cmp key other)) rows.old.items }
+    ensures items { rows.new.items
+        ≡ where_key int_cmp (λ other. not (eq_by_cmp int_cmp key other)) rows.old.items }
     ensures len { vec_len rows.new ≤ vec_len rows.old }
     ensures room { vec_capacity rows.new ≡ vec_capacity rows.old }
 {

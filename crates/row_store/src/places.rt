@@ -73,7 +73,8 @@ pub fn pair_at(rows: &[Entry], at: usize) -> Option<(i64, &[Value])>
 /// The first key that isn't below this one, with its row.
 pub fn pair_from(rows: &[Entry], key: i64) -> Option<(i64, &[Value])>
     requires { map.is_sorted int_cmp rows.now ≡ true }
-    ensures { option_map (λ pair. (pair.0, pair.1.now)) result ≡ list.find (λ entry. is_le (int_cmp key entry.0)) rows.now }
+    ensures { option_map (λ pair. (pair.0, pair.1.now)) result
+        ≡ list.find (λ entry. is_le (int_cmp key entry.0)) rows.now }
 {
     pair_at(rows, place(rows, key))
 }

@@ -59,7 +59,8 @@ impl RowStore {
 
     /// The key and the row at this place, from 0, in the order of the keys, or `None` past the last.
     pub fn at(&self, place: usize) -> Option<(i64, &[Value])>
-        ensures { option_map (λ entry. (entry.0, entry.1.now)) result ≡ slice_get (map.entries self.now.rows) place }
+        ensures { option_map (λ entry. (entry.0, entry.1.now)) result
+            ≡ slice_get (map.entries self.now.rows) place }
     {
         pair_at(self.rows.as_slice(), place)
     }

@@ -1,6 +1,6 @@
 pub mod Fit
-pub mod Mapped
 pub mod Laws
+pub mod Mapped
 pub mod Outcome
 pub mod Text
 pub mod Tree

@@ -3,12 +3,12 @@ use Rattle.std.specs.FinMap as map
 use Rattle.std.specs.Prelude.{slice_get}
 use Rattle.sql_base.specs.declared.values.Value.{Value}
 use Rattle.row_store.specs.Stored.{Stored}
-use Rattle.row_store.proofs.Maps.{entries_meant, meant}
+use Rattle.row_store.proofs.Maps.{entries-map_of, map_of}
 use Rattle.row_store.proofs.rows.RowStore.at.Goals as goal
 
 pub returns : goal.returns
 returns c =
     let items : List (ℤ × List Value) = c.self.inside.rows.items in
-    let rows : meant items ≡ c.args.self.now.rows = ap (λ (s : Stored). s.rows) c.self.view_is in
-    let entries : c.as_slice.result.now ≡ map.entries c.args.self.now.rows = c.as_slice.ensures.value ∙ sym (entries_meant items c.self.invariant) ∙ ap (λ m. map.entries m) rows in
+    let rows : map_of items ≡ c.args.self.now.rows = ap (λ (s : Stored). s.rows) c.self.view_is in
+    let entries : c.as_slice.result.now ≡ map.entries c.args.self.now.rows = c.as_slice.ensures.value ∙ sym (entries-map_of items c.self.invariant) ∙ ap (λ m. map.entries m) rows in
     c.pair_at.ensures ∙ ap (λ es. slice_get es c.args.place) entries

@@ -1,6 +1,6 @@
 use Rattle.std.proofs.Common.{◌≡◌, ◌+◌, ◌≤◌, length}
 use Rattle.row_lock.specs.Holding.{open_tickets}
-use Rattle.row_lock.proofs.finding.open_tickets.Given as goal
+use Rattle.row_lock.proofs.finding.open_count.Given as goal
 
 abbrev pub invariant-loop-lock : goal.invariant-loop-lock
 invariant-loop-lock l = (l.count + length (open_tickets l.rest) ≡ length (open_tickets l.locks)) × (l.count + length l.rest ≤ length l.locks)

@@ -1,0 +1,192 @@
+-- Completing leads from a state that stands to one.
+use Rattle.std.proofs.Common.{◌≡◌, ◌∙◌, inl, inr, ℕ, ◌≤◌, ℤ, List, [], ◌∷◌, Bool, true, false, cond, Option, Some, None, Ok, Err, length, map, ap, refl, sym, subst}
+use Rattle.std.specs.Prelude.{◌==◌, is_none, is_some, nat_eq, sum_by, if◌then◌else◌}
+use Rattle.std.specs.List.{AllByRecursion as Each, filter, list_any}
+use Rattle.std.specs.Option.{option_and_then, option_map, option_map_or}
+use Rattle.std.proofs.lemmas.List.{length-map}
+use Rattle.sql_base.specs.declared.shapes.Schema.{Schema}
+use Rattle.sql_base.specs.declared.values.Value.{Value}
+use Rattle.sql_eval.specs.Row.{least}
+use Rattle.mig_lens.specs.declared.columns.Lens.{Lens}
+use Rattle.mig_lens.specs.declared.columns.Side.TheVariants.{New}
+use Rattle.mig_lens.specs.declared.faults.Kind.{Kind}
+use Rattle.mig_lens.specs.declared.faults.Kind.TheVariants as kind
+use Rattle.mig_lens.specs.declared.faults.Refusal.{Refusal}
+use Rattle.mig_lens.specs.declared.faults.Refusal.TheVariants.{NotFilled, Unfinished}
+use Rattle.mig_lens.specs.declared.plans.Fate.{Fate}
+use Rattle.mig_lens.specs.Plan.{Table, table_numbered}
+use Rattle.machine.specs.declared.events.Reply.{Reply}
+use Rattle.machine.specs.declared.events.Reply.TheVariants.{Complete}
+use Rattle.row_rules.specs.declared.kinds.Kept.{Kept}
+use Rattle.machine.specs.declared.states.Mode.{Mode}
+use Rattle.machine.specs.declared.states.Mode.TheVariants.{Calm, Both}
+use Rattle.machine.specs.declared.states.State.{State}
+use Rattle.machine.specs.State.{Shared, lens_among, row_count, rows_of, shared, table_on}
+use Rattle.row_rules.specs.Site.{name_of}
+use Rattle.machine.specs.Statement.{max_rows}
+use Rattle.machine.specs.Done.{CommandOutcome}
+use Rattle.machine.specs.Migrate.{complete, completed, completed_row, finish, invalid, may_not_complete, not_filled, not_filled_in, not_valid, numbers_of, stepped, table_without_loss, tidied, without_loss}
+use Rattle.machine.specs.Standing.{HalfStands, IsState, ModeStands, NewStands, NewerStands, NoneLost, NumbersAscend, RowStands, StepsStand, TablesStand, VersionStands, may_lose, may_miss}
+use Rattle.machine.proofs.Outcomes.{Holds, Stands, holds_without}
+use Rattle.machine.proofs.Replacing.{row_carries}
+use Rattle.machine.proofs.Tidying.{completing_so, emptied, ended, tidied_so}
+use Rattle.machine.proofs.SiteHalves.{new_half}
+use Rattle.machine.proofs.Joining.{Pair, on_new, paired}
+use Rattle.sql_base.specs.Laws.{either_none}
+use Rattle.machine.proofs.Moving.{Carries, IsFound, Rows, ascends_mapped, counts_kept, each, each_among, each_both, each_found, each_so, filter_all, map_each, numbers, numbers_kept, rows_mapped, tables_mapped, tables_moved}
+
+-- ---- tidying
+
+calm_mode : (s t : State) (m : Mode) → s.kind ≡ kind.Complete → ModeStands s m → ModeStands t m
+calm_mode s t Calm is stands = tt
+calm_mode s t (Both name schema fates) is stands = let no : kind.Nothing ≡ kind.Complete = sym stands.no_steps ∙ is in cc
+
+-- A row that stands does so without its lost weight.
+kept_row : (s : State) (number : ℕ) (row : Kept) → RowStands s number row → RowStands (emptied s) number (without_loss row)
+kept_row s number row r = let there = row_carries s (emptied s) refl refl number row r in record { old = there.old; new = there.new }
+
+kept_table : (s : State) (u : Rows) → Carries s (emptied s) table_without_loss u
+kept_table s u ascend stand =
+    (ascends_mapped without_loss (λ row. refl) u.1 ascend,
+    rows_mapped s (emptied s) u.0 without_loss u.1 (each (λ row. RowStands s u.0 row → RowStands (emptied s) u.0 (without_loss row)) (kept_row s u.0) u.1) stand)
+
+nothing_lost : (rows : List Kept) → NoneLost (map without_loss rows)
+nothing_lost rows = map_each without_loss (λ row. row.lost ≡ 0) rows (each (λ row. 0 ≡ 0) (λ row. refl) rows)
+
+emptied_stands : (s : State) → IsState s → s.kind ≡ kind.Complete → IsState (emptied s)
+emptied_stands s stands is =
+    let t = emptied s in
+    let same_numbers : numbers_of t ≡ numbers_of s = numbers_kept table_without_loss (λ u. refl) s.tables in
+    let same_count : row_count t ≡ row_count s = counts_kept table_without_loss (λ u. length-map u.1 without_loss) s.tables in
+    record {
+      steps = subst (λ k. StepsStand k 1) (sym is) (inr refl);
+      version = subst (λ ns. VersionStands s.schema ns s.next_table) (sym same_numbers) stands.version;
+      mode = calm_mode s t s.mode is stands.mode;
+      numbers = subst NumbersAscend (sym same_numbers) stands.numbers;
+      tables = tables_mapped s t table_without_loss s.tables (each (Carries s t table_without_loss) (kept_table s) s.tables) stands.tables;
+      few = subst (λ n. n ≤ max_rows) (sym same_count) stands.few;
+      lost = λ none. record { columns = refl; rows = map_each table_without_loss (λ table. NoneLost table.1) s.tables (each (λ table. NoneLost (table_without_loss table).1) (λ table. nothing_lost table.1) s.tables) };
+    }
+
+ended_stands : (s : State) → IsState s → s.kind ≡ kind.Complete → (s.left == 2) ≡ false → IsState (ended s)
+ended_stands s stands is left =
+    let t = ended s in
+    let none : may_lose s.kind s.left ≡ false = ap (λ k. may_lose k s.left) is ∙ left in
+    record {
+      steps = refl;
+      version = stands.version;
+      mode = calm_mode s t s.mode is stands.mode;
+      numbers = stands.numbers;
+      tables = tables_moved s t (row_carries s t refl refl) s.tables stands.tables;
+      few = stands.few;
+      lost = λ _. record { columns = (stands.lost none).columns; rows = (stands.lost none).rows };
+    }
+
+tidied_stands : (s : State) → IsState s → s.kind ≡ kind.Complete → IsState (tidied s).after
+tidied_stands s stands is = tidied_so s Stands (s.left == 2) (λ two. emptied_stands s stands is) (λ last. ended_stands s stands is last)
+
+-- ---- no new half is missing
+
+all_filled : (s : State) (tables : List Rows) → not_filled s (numbers tables) ≡ None → Each (λ table. not_filled_in s table.0 ≡ None) tables
+all_filled s [] h = tt
+all_filled s (t ∷ ts) h =
+    let parts = either_none (not_filled_in s t.0) (not_filled s (numbers ts)) h in
+    (parts.0, all_filled s ts parts.1)
+
+no_least : (keys : List ℤ) (refuse : ℤ → Refusal) → option_map refuse (least keys) ≡ None → keys ≡ []
+no_least [] refuse h = refl
+no_least (key ∷ keys) refuse h = cc
+
+abbrev IsFilled : Kept → Type 0
+IsFilled row = is_some row.halves.new ≡ true
+
+abbrev unfilled_keys : List Kept → List ℤ
+unfilled_keys rows = map (λ row. row.key) (filter (λ row. is_none row.halves.new) rows)
+
+each_filled : (rows : List Kept) → unfilled_keys rows ≡ [] → Each IsFilled rows
+each_filled [] h = tt
+each_filled (row ∷ rows) h = by_half (each_filled rows) row.halves.new refl h
+  where
+    by_half : (unfilled_keys rows ≡ [] → Each IsFilled rows) → (half : Option (List Value)) → row.halves.new ≡ half → map (λ row. row.key) (cond (is_none half) (row ∷ filter (λ row. is_none row.halves.new) rows) (filter (λ row. is_none row.halves.new) rows)) ≡ [] → IsFilled row × Each IsFilled rows
+    by_half more None is k = cc
+    by_half more (Some values) is k = (ap is_some is, more k)
+
+filled_in : (s : State) (number : ℕ) (pair : Shared) (rows : List Kept) → shared s number ≡ Some pair → rows_of s number ≡ rows → not_filled_in s number ≡ None → Each IsFilled rows
+filled_in s number pair rows is found h =
+    let none : option_map (λ key. NotFilled (name_of pair.new) key) (least (unfilled_keys (rows_of s number))) ≡ None = subst (λ p. option_and_then (λ pair. option_map (λ key. NotFilled (name_of pair.new) key) (least (option_map_or (λ pair. unfilled_keys (rows_of s number)) p []))) p ≡ None) is h in
+    each_filled rows (subst (λ rows. unfilled_keys rows ≡ []) found (no_least (unfilled_keys (rows_of s number)) (λ key. NotFilled (name_of pair.new) key) none))
+
+-- ---- completing
+
+abbrev pub completed_table : List (ℕ × Fate) → Rows → Rows
+completed_table fates table = (table.0, map (completed_row (lens_among fates table.0)) table.1)
+
+alone : (found : Option Table) (key : ℤ) → NewStands (may_miss (option_and_then (λ old. None) found)) None key None
+alone None key = tt
+alone (Some table) key = tt
+
+completed_row_stands : (s : State) (name : List ℕ) (schema : Schema) (fates : List (ℕ × Fate)) → s.mode ≡ Both name schema fates → (number : ℕ) (row : Kept) → IsFilled row → RowStands s number row → RowStands (completed s name schema fates) number (completed_row (lens_among fates number) row)
+completed_row_stands s name schema fates is number row filled stands =
+    record {
+      old = subst (λ table. HalfStands table row.key row.halves.new) (on_new s name schema fates is number) (new_half (may_miss (shared s number)) (table_on s New number) row.key row.halves.new filled stands.new);
+      new = alone (table_numbered schema number) row.key;
+    }
+
+-- A table that both versions have.
+abbrev IsPaired : State → Rows → Type 0
+IsPaired s table = (lens : Lens) × Pair s table.0 lens
+
+all_paired : (s : State) (name : List ℕ) (schema : Schema) (fates : List (ℕ × Fate)) → s.mode ≡ Both name schema fates → NewerStands s name schema fates → Each (IsPaired s) s.tables
+all_paired s name schema fates is newer = each_so (λ u. list_any (nat_eq u.0) (numbers_of s) ≡ true) (IsPaired s) pair s.tables (each_among s.tables)
+  where
+    pair : (u : Rows) → list_any (nat_eq u.0) (numbers_of s) ≡ true → IsPaired s u
+    pair u among =
+        let kept = newer.kept u.0 among in
+        (kept.0, paired s name schema fates is u.0 kept.0 kept.1 (newer.joined u.0 kept.0 kept.1))
+
+whole_tables : (s : State) → NumbersAscend (numbers_of s) → Each (IsPaired s) s.tables → not_filled s (numbers_of s) ≡ None → Each (λ table. Each IsFilled table.1) s.tables
+whole_tables s ascend pairs none =
+    each_both (IsFound s.tables) (λ u. IsPaired s u × (not_filled_in s u.0 ≡ None)) (λ u. Each IsFilled u.1) whole s.tables (each_found s.tables ascend)
+    (each_both (IsPaired s) (λ u. not_filled_in s u.0 ≡ None) (λ u. IsPaired s u × (not_filled_in s u.0 ≡ None)) (λ u p q. (p, q)) s.tables pairs (all_filled s s.tables none))
+  where
+    whole : (u : Rows) → IsFound s.tables u → IsPaired s u × (not_filled_in s u.0 ≡ None) → Each IsFilled u.1
+    whole u found h =
+        let pair = h.0.1 in
+        filled_in s u.0 (record { old = pair.old; new = pair.new; lens = h.0.0 }) u.1 pair.is_shared (ap (λ f. option_map_or (λ table. table.1) f []) found) h.1
+
+completed_state : (s : State) (name : List ℕ) (schema : Schema) (fates : List (ℕ × Fate)) → s.mode ≡ Both name schema fates → IsState s → NewerStands s name schema fates → not_filled s (numbers_of s) ≡ None → IsState (completed s name schema fates)
+completed_state s name schema fates is stands newer none =
+    let t = completed s name schema fates in
+    let pairs = all_paired s name schema fates is newer in
+    let whole = whole_tables s stands.numbers pairs none in
+    let stay = each_so (IsPaired s) (λ u. is_some (table_numbered schema u.0) ≡ true) (λ u p. ap is_some (sym (on_new s name schema fates is u.0) ∙ p.1.stands.new)) s.tables pairs in
+    let same_tables : t.tables ≡ map (completed_table fates) s.tables = ap (map (completed_table fates)) (filter_all (λ u. is_some (table_numbered schema u.0)) s.tables stay) in
+    let same_numbers : numbers_of t ≡ numbers_of s = ap numbers same_tables ∙ numbers_kept (completed_table fates) (λ u. refl) s.tables in
+    let same_count : row_count t ≡ row_count s = ap (sum_by (λ u. length u.1)) same_tables ∙ counts_kept (completed_table fates) (λ u. length-map u.1 (completed_row (lens_among fates u.0))) s.tables in
+    let carried = each_so (λ u. Each IsFilled u.1) (Carries s t (completed_table fates)) carries s.tables whole in
+    record {
+      steps = inl refl;
+      version = subst (λ ns. VersionStands schema ns s.next_table) (sym same_numbers) newer.version;
+      mode = tt;
+      numbers = subst NumbersAscend (sym same_numbers) stands.numbers;
+      tables = subst (TablesStand t) (sym same_tables) (tables_mapped s t (completed_table fates) s.tables carried stands.tables);
+      few = subst (λ n. n ≤ max_rows) (sym same_count) stands.few;
+      lost = λ none. cc;
+    }
+  where
+    carries : (u : Rows) → Each IsFilled u.1 → Carries s (completed s name schema fates) (completed_table fates) u
+    carries u whole ascend stand =
+        let one = each_so IsFilled (λ row. RowStands s u.0 row → RowStands (completed s name schema fates) u.0 (completed_row (lens_among fates u.0) row)) (completed_row_stands s name schema fates is u.0) u.1 whole in
+        (ascends_mapped (completed_row (lens_among fates u.0)) (λ row. refl) u.1 ascend, rows_mapped s (completed s name schema fates) u.0 (completed_row (lens_among fates u.0)) u.1 one stand)
+
+-- ---- every step of completing
+
+finished_stands : (s : State) (m : Mode) → s.mode ≡ m → IsState s → Holds Stands (finish s m)
+finished_stands s Calm is stands = tt
+finished_stands s (Both name schema fates) is stands =
+    holds_without Stands (may_not_complete s) (stepped 1 (completed s name schema fates))
+    (λ allowed. completed_state s name schema fates is stands (subst (ModeStands s) is stands.mode) (either_none (not_filled s (numbers_of s)) (option_map not_valid (invalid s (numbers_of s))) allowed).0)
+
+-- Completing, the migration's completion or a step of tidying after it, leads from a state that stands to one.
+pub completed_stands : (s : State) → IsState s → Holds Stands (complete s)
+completed_stands s stands = completing_so s Stands (λ is. finished_stands s s.mode refl stands) (λ is. tidied_stands s stands is)

@@ -1,0 +1,171 @@
+-- Rows keep their constraints and their limit through every step.
+use Rattle.std.proofs.Common.{◌≡◌, ◌∙◌, ℕ, ℤ, List, [], ◌∷◌, Bool, true, false, ◌||◌, Option, Some, None, map, is_some, ap, refl, sym, subst, if◌then◌else◌, true≢false, option_map, option_and_then, nat_lt, codes}
+use Rattle.std.specs.List.{AllByRecursion as Each, filter, list_any}
+use Rattle.std.specs.Option.{option_map_or, option_or}
+use Rattle.sql_base.specs.Laws.{either_none}
+use Rattle.sql_base.specs.Weight.{weight}
+use Rattle.sql_base.specs.declared.codes.Code.TheVariants.{C54000}
+use Rattle.sql_base.specs.declared.shapes.Schema.{Schema}
+use Rattle.sql_base.specs.declared.values.Value.{Value}
+use Rattle.mig_lens.specs.Lens.{unfilled}
+use Rattle.mig_lens.specs.declared.columns.Lens.{Lens}
+use Rattle.mig_lens.specs.declared.columns.Side.TheVariants.{Old, New}
+use Rattle.mig_lens.specs.declared.plans.Fate.{Fate}
+use Rattle.mig_lens.specs.declared.plans.Plan.{Plan}
+use Rattle.mig_lens.specs.Layout.{has_mark}
+use Rattle.mig_lens.specs.Plan.{Table, table_numbered}
+use Rattle.row_rules.specs.Accept.{clashes_on, half_cause, is_heavy, keys_of, side_cause, weight_cause}
+use Rattle.row_rules.specs.Causes.{max_weight}
+use Rattle.row_rules.specs.Outcome.{first_some}
+use Rattle.row_rules.specs.Steps.{begun_half, begun_row, new_half_cause, shows_heavy}
+use Rattle.machine.specs.Lawful.{HasLawfulRows, IsLawfulRow, RowsLawful}
+use Rattle.machine.specs.Migrate.{begun_table, completed, completed_row, has_heavy, invalid, invalid_in, numbers_of, started, table_without_loss, without_loss}
+use Rattle.machine.specs.Standing.{NumbersAscend, may_miss}
+use Rattle.machine.specs.State.{Shared, lens_among, rows_of, shared, table_on, with_rows}
+use Rattle.machine.specs.Words.{Both, Cause, Kept, State}
+use Rattle.machine.proofs.Clashes.{none_each}
+use Rattle.machine.proofs.Completing.{completed_table}
+use Rattle.machine.proofs.Joining.{on_new}
+use Rattle.machine.proofs.Moving.{IsFound, Rows, each_both, each_found, each_so, filter_each, map_each}
+use Rattle.machine.proofs.Replacing.{replaced_so, rows_so}
+use Rattle.machine.proofs.SettledJobs.{none_first}
+use Rattle.machine.proofs.Tidying.{emptied}
+
+-- ---- a table whose rows are replaced
+
+pub rows_lawful : (s : State) (number : ℕ) → RowsLawful s → Each (IsLawfulRow s number) (rows_of s number)
+rows_lawful s number h = rows_so (λ number rows. Each (IsLawfulRow s number) rows) number tt s.tables h
+
+same_versions : (s : State) (tables : List Rows) (number : ℕ) (row : Kept) → IsLawfulRow s number row → IsLawfulRow (record s { tables = tables }) number row
+same_versions s tables number row h = record { old = h.old; new = h.new; light = h.light }
+
+pub with_rows_lawful : (s : State) (number : ℕ) (rows : List Kept) → RowsLawful s → Each (IsLawfulRow s number) rows → RowsLawful (with_rows s number rows)
+with_rows_lawful s number rows h r =
+    let t = with_rows s number rows in
+    each_so (HasLawfulRows s) (HasLawfulRows t) (λ u. each_so (IsLawfulRow s u.0) (IsLawfulRow t u.0) (same_versions s t.tables u.0) u.1) t.tables
+    (replaced_so (λ number rows. Each (IsLawfulRow s number) rows) number rows r s.tables h)
+
+-- ---- START
+
+light_either : (a b : Bool) (cause : Option Cause) → (if a || b then cause else None) ≡ None → is_some cause ≡ true → (a ≡ false) × (b ≡ false)
+light_either true b cause h k = cc
+light_either false true cause h k = cc
+light_either false false cause h k = (refl, refl)
+
+light_from : (row : Kept) → is_heavy row.halves.old ≡ false → is_heavy row.halves.new ≡ false → weight_cause row ≡ None
+light_from row o n = rw (o, n) refl
+
+light_parts : (row : Kept) → weight_cause row ≡ None → (is_heavy row.halves.old ≡ false) × (is_heavy row.halves.new ≡ false)
+light_parts row h = light_either (is_heavy row.halves.old) (is_heavy row.halves.new) (Some (record { code = C54000; name = Some (codes "row"); key = row.key })) h refl
+
+no_half_cause : (table : Option Table) (key : ℤ) → side_cause table key None ≡ None
+no_half_cause None key = refl
+no_half_cause (Some table) key = refl
+
+begun_light : (lens : Lens) (old : Option (List Value)) → option_map_or (λ old. nat_lt max_weight (weight (unfilled lens old))) old false ≡ false → is_heavy (begun_half lens old) ≡ false
+begun_light lens old h = by_mark (has_mark lens) old h
+  where
+    by_mark : (b : Bool) (old : Option (List Value)) → option_map_or (λ old. nat_lt max_weight (weight (unfilled lens old))) old false ≡ false → is_heavy (if b then None else option_map (unfilled lens) old) ≡ false
+    by_mark true old h = refl
+    by_mark false None h = refl
+    by_mark false (Some values) h = h
+
+abbrev pub joined_by : Option Lens → Option Table → Option Table → Option Shared
+joined_by lens old new = option_and_then (λ old. option_and_then (λ new. option_map (λ lens. record { old = old; new = new; lens = lens }) lens) new) old
+
+pub without_lens : (old new : Option Table) → may_miss (joined_by None old new) ≡ false
+without_lens None new = refl
+without_lens (Some old) None = refl
+without_lens (Some old) (Some new) = refl
+
+pub with_lens : (lens : Lens) (old new : Option Table) → may_miss (joined_by (Some lens) old new) ≡ true → has_mark lens ≡ true
+with_lens lens None new h = cc
+with_lens lens (Some old) None h = cc
+with_lens lens (Some old) (Some new) h = h
+
+-- A row of a table without a lens.
+unbegun_row : (s : State) (name : List ℕ) (plan : Plan) (number : ℕ) → lens_among plan.fates number ≡ None → (row : Kept) → IsLawfulRow s number row → IsLawfulRow (started s name plan) number row
+unbegun_row s name plan number none row h =
+    let t = started s name plan in
+    let no : may_miss (shared t number) ≡ false = ap (λ l. may_miss (joined_by l (table_on t Old number) (table_on t New number))) none ∙ without_lens (table_on t Old number) (table_on t New number) in
+    record { old = h.old; new = λ k. absurd (true≢false (sym k ∙ no)); light = h.light }
+
+begun_row_lawful : (s : State) (name : List ℕ) (plan : Plan) (number : ℕ) (lens : Lens) → lens_among plan.fates number ≡ Some lens → (row : Kept) → IsLawfulRow s number row → shows_heavy lens row ≡ false → IsLawfulRow (started s name plan) number (begun_row lens row)
+begun_row_lawful s name plan number lens has row h light =
+    let t = started s name plan in
+    let old = row.halves.old in
+    record {
+      old = h.old;
+      new = λ k.
+          let marked : has_mark lens ≡ true = with_lens lens (table_on t Old number) (table_on t New number) (ap (λ l. may_miss (joined_by l (table_on t Old number) (table_on t New number))) (sym has) ∙ k) in
+          let missing : begun_half lens old ≡ None = ap (λ b. if b then None else option_map (unfilled lens) old) marked in
+          ap (side_cause (table_on t New number) row.key) missing ∙ no_half_cause (table_on t New number) row.key;
+      light = light_from (begun_row lens row) (light_parts row h.light).0 (begun_light lens old light);
+    }
+
+begun_table_lawful : (s : State) (name : List ℕ) (plan : Plan) (u : Rows) → HasLawfulRows s u → has_heavy plan.fates u ≡ false → HasLawfulRows (started s name plan) (begun_table plan.fates u)
+begun_table_lawful s name plan u h light = by_lens (lens_among plan.fates u.0) refl light
+  where
+    by_lens : (l : Option Lens) → lens_among plan.fates u.0 ≡ l → option_map_or (λ lens. list_any (shows_heavy lens) u.1) l false ≡ false → HasLawfulRows (started s name plan) (option_map_or (λ lens. (u.0, map (begun_row lens) u.1)) l u)
+    by_lens None e light = each_so (IsLawfulRow s u.0) (IsLawfulRow (started s name plan) u.0) (unbegun_row s name plan u.0 e) u.1 h
+    by_lens (Some lens) e light =
+        map_each (begun_row lens) (IsLawfulRow (started s name plan) u.0) u.1
+        (each_both (IsLawfulRow s u.0) (λ row. shows_heavy lens row ≡ false) (λ row. IsLawfulRow (started s name plan) u.0 (begun_row lens row)) (λ row. begun_row_lawful s name plan u.0 lens e row) u.1 h (none_each (shows_heavy lens) u.1 light))
+
+pub started_lawful : (s : State) (name : List ℕ) (plan : Plan) → RowsLawful s → list_any (has_heavy plan.fates) s.tables ≡ false → RowsLawful (started s name plan)
+started_lawful s name plan h light =
+    map_each (begun_table plan.fates) (HasLawfulRows (started s name plan)) s.tables
+    (each_both (HasLawfulRows s) (λ u. has_heavy plan.fates u ≡ false) (λ u. HasLawfulRows (started s name plan) (begun_table plan.fates u)) (begun_table_lawful s name plan) s.tables h (none_each (has_heavy plan.fates) s.tables light))
+
+-- ---- COMPLETE
+
+pub all_valid : (s : State) (tables : List Rows) → invalid s (map (λ table. table.0) tables) ≡ None → Each (λ u. invalid_in s u.0 ≡ None) tables
+all_valid s [] h = tt
+all_valid s (u ∷ us) h =
+    let parts = either_none (invalid_in s u.0) (invalid s (map (λ table. table.0) us)) h in
+    (parts.0, all_valid s us parts.1)
+
+valid_rows : (found : Option Table) (rows : List Kept) (more : Table → Option Cause) → option_and_then (λ table. option_or (first_some (new_half_cause table) rows) (more table)) found ≡ None → Each (λ row. side_cause found row.key row.halves.new ≡ None) rows
+valid_rows None rows more h = every_row rows
+  where
+    every_row : (rows : List Kept) → Each (λ (row : Kept). side_cause None row.key row.halves.new ≡ None) rows
+    every_row [] = tt
+    every_row (row ∷ rows) = (refl, every_row rows)
+valid_rows (Some table) rows more h = none_first (new_half_cause table) rows (either_none (first_some (new_half_cause table) rows) (more table) h).0
+
+pub alone_never_misses : (found : Option Table) → may_miss (option_and_then (λ (old : Table). None) found) ≡ false
+alone_never_misses None = refl
+alone_never_misses (Some table) = refl
+
+completed_row_lawful : (s : State) (name : List ℕ) (schema : Schema) (fates : List (ℕ × Fate)) (number : ℕ) (row : Kept) → IsLawfulRow s number row → side_cause (table_numbered schema number) row.key row.halves.new ≡ None → IsLawfulRow (completed s name schema fates) number (completed_row (lens_among fates number) row)
+completed_row_lawful s name schema fates number row h valid =
+    record {
+      old = valid;
+      new = λ k. absurd (true≢false (sym k ∙ alone_never_misses (table_numbered schema number)));
+      light = light_from (completed_row (lens_among fates number) row) (light_parts row h.light).1 refl;
+    }
+
+completed_table_lawful : (s : State) (name : List ℕ) (schema : Schema) (fates : List (ℕ × Fate)) → s.mode ≡ Both name schema fates → (u : Rows) → HasLawfulRows s u → IsFound s.tables u × (invalid_in s u.0 ≡ None) → HasLawfulRows (completed s name schema fates) (completed_table fates u)
+completed_table_lawful s name schema fates is u h (found, valid) =
+    let rows : rows_of s u.0 ≡ u.1 = ap (λ f. option_map_or (λ (table : Rows). table.1) f []) found in
+    let more : Table → Option Cause = λ table. clashes_on (Some table) New (rows_of s u.0) (keys_of (rows_of s u.0)) in
+    let each_valid = valid_rows (table_on s New u.0) (rows_of s u.0) more valid in
+    let at_rows = subst (λ rows. Each (λ (row : Kept). side_cause (table_on s New u.0) row.key row.halves.new ≡ None) rows) rows each_valid in
+    let at_table = subst (λ table. Each (λ (row : Kept). side_cause table row.key row.halves.new ≡ None) u.1) (on_new s name schema fates is u.0) at_rows in
+    map_each (completed_row (lens_among fates u.0)) (IsLawfulRow (completed s name schema fates) u.0) u.1
+    (each_both (IsLawfulRow s u.0) (λ row. side_cause (table_numbered schema u.0) row.key row.halves.new ≡ None) (λ row. IsLawfulRow (completed s name schema fates) u.0 (completed_row (lens_among fates u.0) row)) (completed_row_lawful s name schema fates u.0) u.1 h at_table)
+
+pub completed_lawful : (s : State) (name : List ℕ) (schema : Schema) (fates : List (ℕ × Fate)) → s.mode ≡ Both name schema fates → NumbersAscend (numbers_of s) → RowsLawful s → invalid s (numbers_of s) ≡ None → RowsLawful (completed s name schema fates)
+completed_lawful s name schema fates is ascend h valid =
+    map_each (completed_table fates) (HasLawfulRows (completed s name schema fates)) (filter (λ (u : Rows). is_some (table_numbered schema u.0)) s.tables)
+    (filter_each (λ (u : Rows). is_some (table_numbered schema u.0)) (λ u. HasLawfulRows (completed s name schema fates) (completed_table fates u)) s.tables
+    (each_both (HasLawfulRows s) (λ u. IsFound s.tables u × (invalid_in s u.0 ≡ None)) (λ u. HasLawfulRows (completed s name schema fates) (completed_table fates u)) (completed_table_lawful s name schema fates is) s.tables h
+    (each_both (IsFound s.tables) (λ u. invalid_in s u.0 ≡ None) (λ u. IsFound s.tables u × (invalid_in s u.0 ≡ None)) (λ u p q. (p, q)) s.tables (each_found s.tables ascend) (all_valid s s.tables valid))))
+
+-- ---- tidying
+
+kept_lawful : (s : State) (u : Rows) → HasLawfulRows s u → HasLawfulRows (emptied s) (table_without_loss u)
+kept_lawful s u h = map_each without_loss (IsLawfulRow (emptied s) u.0) u.1 (each_so (IsLawfulRow s u.0) (λ row. IsLawfulRow (emptied s) u.0 (without_loss row)) (λ row r. record { old = r.old; new = r.new; light = r.light }) u.1 h)
+
+pub emptied_lawful : (s : State) → RowsLawful s → RowsLawful (emptied s)
+emptied_lawful s h = map_each table_without_loss (HasLawfulRows (emptied s)) s.tables (each_so (HasLawfulRows s) (λ u. HasLawfulRows (emptied s) (table_without_loss u)) (kept_lawful s) s.tables h)

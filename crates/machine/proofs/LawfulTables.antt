@@ -1,0 +1,150 @@
+-- Tables keep their unique constraints through every step.
+use Rattle.std.proofs.Common.{◌≡◌, ◌∙◌, ℕ, ℤ, List, [], ◌∷◌, Bool, true, false, Option, Some, None, map, filter, is_some, ap, refl, sym, subst, true≢false, option_map, option_and_then, if◌then◌else◌}
+use Rattle.std.specs.List.{AllByRecursion as Each, cons_option}
+use Rattle.std.specs.Option.{option_map_or, option_or}
+use Rattle.sql_base.specs.Laws.{either_none}
+use Rattle.sql_base.specs.declared.shapes.Schema.{Schema}
+use Rattle.sql_base.specs.declared.shapes.Unique.{Unique}
+use Rattle.mig_lens.specs.Lens.{unfilled}
+use Rattle.mig_lens.specs.declared.columns.Lens.{Lens}
+use Rattle.mig_lens.specs.declared.columns.Side.{Side}
+use Rattle.mig_lens.specs.declared.columns.Side.TheVariants.{Old, New}
+use Rattle.mig_lens.specs.declared.plans.Fate.{Fate}
+use Rattle.mig_lens.specs.declared.plans.Plan.{Plan}
+use Rattle.mig_lens.specs.Layout.{has_mark}
+use Rattle.mig_lens.specs.Plan.{Table, table_numbered}
+use Rattle.row_rules.specs.Accept.{clashes_on, keys_of, present, unique_cause}
+use Rattle.row_rules.specs.Changes.{after_changes, keys_changed}
+use Rattle.row_rules.specs.Outcome.{first_some}
+use Rattle.row_rules.specs.Site.{half, shape_of}
+use Rattle.row_rules.specs.Steps.{begun_half, begun_row, new_half_cause}
+use Rattle.machine.specs.Lawful.{HasNoClash}
+use Rattle.machine.specs.Migrate.{begun_table, completed, completed_row, invalid, invalid_in, numbers_of, started, table_without_loss, without_loss}
+use Rattle.machine.specs.Standing.{Ascends, NumbersAscend, may_miss}
+use Rattle.machine.specs.State.{lens_among, rows_of, shared, table_on, with_rows}
+use Rattle.machine.specs.Words.{Both, Cause, Change, Kept, State}
+use Rattle.machine.proofs.Clashes.{Quiet, changed_without_clash, no_cause}
+use Rattle.machine.proofs.Completing.{completed_table}
+use Rattle.machine.proofs.Joining.{on_new}
+use Rattle.machine.proofs.LawfulRows.{all_valid, alone_never_misses, joined_by, with_lens, without_lens}
+use Rattle.machine.proofs.Moving.{IsFound, Rows, each_both, each_found, each_so, filter_each, map_each}
+use Rattle.machine.proofs.Replacing.{replaced_so, rows_so}
+use Rattle.machine.proofs.Tidying.{emptied}
+
+-- ---- tables without entries
+
+quiet_empty : (unique : Unique) (keys : List ℤ) → Quiet unique [] keys
+quiet_empty unique [] = tt
+quiet_empty unique (key ∷ keys) = (refl, quiet_empty unique keys)
+
+quiet_all : (keys : List ℤ) (uniques : List Unique) → Each (λ unique. Quiet unique [] keys) uniques
+quiet_all keys [] = tt
+quiet_all keys (unique ∷ uniques) = (quiet_empty unique keys, quiet_all keys uniques)
+
+-- Where no row has a half on this side none clashes.
+nothing_clashes : (table : Option Table) (side : Side) (rows : List Kept) (keys : List ℤ) → present side rows ≡ [] → clashes_on table side rows keys ≡ None
+nothing_clashes None side rows keys e = refl
+nothing_clashes (Some table) side rows keys e = ap (λ entries. first_some (unique_cause entries keys) (shape_of table).uniques) e ∙ no_cause [] keys (shape_of table).uniques (quiet_all keys (shape_of table).uniques)
+
+-- ---- a table whose rows are replaced
+
+found_unique : (s : State) (number : ℕ) → Each (HasNoClash s) s.tables → HasNoClash s (number, rows_of s number)
+found_unique s number h =
+    rows_so (λ number rows. HasNoClash s (number, rows)) number
+    (record { old = nothing_clashes (table_on s Old number) Old [] [] refl; new = λ _. nothing_clashes (table_on s New number) New [] [] refl }) s.tables h
+
+same_versions : (s : State) (tables : List Rows) (table : Rows) → HasNoClash s table → HasNoClash (record s { tables = tables }) table
+same_versions s tables table h = record { old = h.old; new = h.new }
+
+with_rows_unique : (s : State) (number : ℕ) (rows : List Kept) → Each (HasNoClash s) s.tables → HasNoClash s (number, rows) → Each (HasNoClash (with_rows s number rows)) (with_rows s number rows).tables
+with_rows_unique s number rows h r =
+    let t = with_rows s number rows in
+    each_so (HasNoClash s) (HasNoClash t) (same_versions s t.tables) t.tables (replaced_so (λ number rows. HasNoClash s (number, rows)) number rows r s.tables h)
+
+-- Changes that nothing clashes with.
+pub changed_unique : (s : State) (number : ℕ) (all : List Change) → Ascends (rows_of s number) → Each (HasNoClash s) s.tables → clashes_on (table_on s Old number) Old (after_changes all (rows_of s number)) (keys_changed all) ≡ None → clashes_on (table_on s New number) New (after_changes all (rows_of s number)) (keys_changed all) ≡ None → Each (HasNoClash (with_rows s number (after_changes all (rows_of s number)))) (with_rows s number (after_changes all (rows_of s number))).tables
+changed_unique s number all ascend h old_looked new_looked =
+    let older = rows_of s number in
+    let before = found_unique s number h in
+    with_rows_unique s number (after_changes all older) h (record {
+      old = changed_without_clash (table_on s Old number) Old all older ascend before.old old_looked;
+      new = λ k. changed_without_clash (table_on s New number) New all older ascend (before.new k) new_looked;
+    })
+
+-- ---- START
+
+mapped_keys : (f : Kept → Kept) → ((row : Kept) → (f row).key ≡ row.key) → (rows : List Kept) → keys_of (map f rows) ≡ keys_of rows
+mapped_keys f h [] = refl
+mapped_keys f h (row ∷ rows) = rw (h row, mapped_keys f h rows) refl
+
+-- A side shows the rows as the other side showed them before.
+mapped_present : (f : Kept → Kept) (before after : Side) → ((row : Kept) → (f row).key ≡ row.key) → ((row : Kept) → half after (f row).halves ≡ half before row.halves) → (rows : List Kept) → present after (map f rows) ≡ present before rows
+mapped_present f before after k h [] = refl
+mapped_present f before after k h (row ∷ rows) = rw (k row, h row, mapped_present f before after k h rows) refl
+
+mapped_clashes : (table : Option Table) (f : Kept → Kept) (before after : Side) → ((row : Kept) → (f row).key ≡ row.key) → ((row : Kept) → half after (f row).halves ≡ half before row.halves) → (rows : List Kept) → clashes_on table before rows (keys_of rows) ≡ None → clashes_on table after (map f rows) (keys_of (map f rows)) ≡ None
+mapped_clashes None f before after k h rows c = refl
+mapped_clashes (Some table) f before after k h rows c =
+    ap (λ entries. first_some (unique_cause entries (keys_of (map f rows))) (shape_of table).uniques) (mapped_present f before after k h rows) ∙ ap (λ keys. first_some (unique_cause (present before rows) keys) (shape_of table).uniques) (mapped_keys f k rows) ∙ c
+
+nothing_begun : (lens : Lens) → has_mark lens ≡ true → (rows : List Kept) → present New (map (begun_row lens) rows) ≡ []
+nothing_begun lens marked [] = refl
+nothing_begun lens marked (row ∷ rows) =
+    let missing : begun_half lens row.halves.old ≡ None = ap (λ b. if b then None else option_map (unfilled lens) row.halves.old) marked in
+    ap (λ o. cons_option (option_map (λ values. (row.key, values)) o) (present New (map (begun_row lens) rows))) missing ∙ nothing_begun lens marked rows
+
+begun_unique : (s : State) (name : List ℕ) (plan : Plan) (u : Rows) → HasNoClash s u → HasNoClash (started s name plan) (begun_table plan.fates u)
+begun_unique s name plan u h = by_lens (lens_among plan.fates u.0) refl
+  where
+    t : State
+    t = started s name plan
+
+    by_lens : (l : Option Lens) → lens_among plan.fates u.0 ≡ l → HasNoClash t (option_map_or (λ lens. (u.0, map (begun_row lens) u.1)) l u)
+    by_lens None e =
+        let no : may_miss (shared t u.0) ≡ false = ap (λ l. may_miss (joined_by l (table_on t Old u.0) (table_on t New u.0))) e ∙ without_lens (table_on t Old u.0) (table_on t New u.0) in
+        record { old = h.old; new = λ k. absurd (true≢false (sym k ∙ no)) }
+    by_lens (Some lens) e =
+        record {
+          old = mapped_clashes (table_on s Old u.0) (begun_row lens) Old Old (λ row. refl) (λ row. refl) u.1 h.old;
+          new = λ k.
+              let marked : has_mark lens ≡ true = with_lens lens (table_on t Old u.0) (table_on t New u.0) (ap (λ l. may_miss (joined_by l (table_on t Old u.0) (table_on t New u.0))) (sym e) ∙ k) in
+              nothing_clashes (table_on t New u.0) New (map (begun_row lens) u.1) (keys_of (map (begun_row lens) u.1)) (nothing_begun lens marked u.1);
+        }
+
+pub started_unique : (s : State) (name : List ℕ) (plan : Plan) → Each (HasNoClash s) s.tables → Each (HasNoClash (started s name plan)) (started s name plan).tables
+started_unique s name plan h = map_each (begun_table plan.fates) (HasNoClash (started s name plan)) s.tables (each_so (HasNoClash s) (λ u. HasNoClash (started s name plan) (begun_table plan.fates u)) (begun_unique s name plan) s.tables h)
+
+-- ---- COMPLETE
+
+valid_clashes : (found : Option Table) (causes : Table → Option Cause) (rows : List Kept) → option_and_then (λ table. option_or (causes table) (clashes_on (Some table) New rows (keys_of rows))) found ≡ None → clashes_on found New rows (keys_of rows) ≡ None
+valid_clashes None causes rows h = refl
+valid_clashes (Some table) causes rows h = (either_none (causes table) (clashes_on (Some table) New rows (keys_of rows)) h).1
+
+completed_unique_table : (s : State) (name : List ℕ) (schema : Schema) (fates : List (ℕ × Fate)) → s.mode ≡ Both name schema fates → (u : Rows) → IsFound s.tables u → invalid_in s u.0 ≡ None → HasNoClash (completed s name schema fates) (completed_table fates u)
+completed_unique_table s name schema fates is u found valid =
+    let rows : rows_of s u.0 ≡ u.1 = ap (λ f. option_map_or (λ (table : Rows). table.1) f []) found in
+    let quiet = valid_clashes (table_on s New u.0) (λ table. first_some (new_half_cause table) (rows_of s u.0)) (rows_of s u.0) valid in
+    let at_rows = subst (λ rows. clashes_on (table_on s New u.0) New rows (keys_of rows) ≡ None) rows quiet in
+    let at_table = subst (λ table. clashes_on table New u.1 (keys_of u.1) ≡ None) (on_new s name schema fates is u.0) at_rows in
+    record {
+      old = mapped_clashes (table_numbered schema u.0) (completed_row (lens_among fates u.0)) New Old (λ row. refl) (λ row. refl) u.1 at_table;
+      new = λ k. absurd (true≢false (sym k ∙ alone_never_misses (table_numbered schema u.0)));
+    }
+
+pub completed_unique : (s : State) (name : List ℕ) (schema : Schema) (fates : List (ℕ × Fate)) → s.mode ≡ Both name schema fates → NumbersAscend (numbers_of s) → invalid s (numbers_of s) ≡ None → Each (HasNoClash (completed s name schema fates)) (completed s name schema fates).tables
+completed_unique s name schema fates is ascend valid =
+    map_each (completed_table fates) (HasNoClash (completed s name schema fates)) (filter (λ (u : Rows). is_some (table_numbered schema u.0)) s.tables)
+    (filter_each (λ (u : Rows). is_some (table_numbered schema u.0)) (λ u. HasNoClash (completed s name schema fates) (completed_table fates u)) s.tables
+    (each_both (IsFound s.tables) (λ u. invalid_in s u.0 ≡ None) (λ u. HasNoClash (completed s name schema fates) (completed_table fates u)) (completed_unique_table s name schema fates is) s.tables (each_found s.tables ascend) (all_valid s s.tables valid)))
+
+-- ---- tidying
+
+kept_unique : (s : State) (u : Rows) → HasNoClash s u → HasNoClash (emptied s) (table_without_loss u)
+kept_unique s u h =
+    record {
+      old = mapped_clashes (table_on s Old u.0) without_loss Old Old (λ row. refl) (λ row. refl) u.1 h.old;
+      new = λ k. mapped_clashes (table_on s New u.0) without_loss New New (λ row. refl) (λ row. refl) u.1 (h.new k);
+    }
+
+pub emptied_unique : (s : State) → Each (HasNoClash s) s.tables → Each (HasNoClash (emptied s)) (emptied s).tables
+emptied_unique s h = map_each table_without_loss (HasNoClash (emptied s)) s.tables (each_so (HasNoClash s) (λ u. HasNoClash (emptied s) (table_without_loss u)) (kept_unique s) s.tables h)

@@ -1,0 +1,55 @@
+//! Why commands of a migration are refused.
+ghost use Rattle.std.specs.Prelude.{◌≡◌, IfOk};
+ghost use Rattle.mig_lens.specs.declared.faults.Refusal.TheVariants as Refusal;
+ghost use Rattle.machine.specs.Migrate as spec;
+
+use crate::states::{Mode, State};
+use mig_lens::{Kind, Refusal};
+use row_rules::Cause;
+use sql_base::{Copying, Name, NoMemory};
+use std::alloc::Global;
+
+/// Steps of tidying are left.
+pub fn steps_left(s: &State) -> Option<Refusal>
+    ensures { result ≡ spec.steps_left s.now }
+{
+    match s.kind {
+        Kind::Nothing => None,
+        Kind::Complete => Some(Refusal::Unfinished(Kind::Complete)),
+        Kind::Rollback => Some(Refusal::Unfinished(Kind::Rollback)),
+    }
+}
+
+/// No migration is active.
+pub fn inactive(mode: &Mode) -> Option<Refusal>
+    ensures { result ≡ spec.inactive mode.now }
+{
+    match mode {
+        Mode::Calm => Some(Refusal::NoActive),
+        Mode::Both { .. } => None,
+    }
+}
+
+/// The quantity of this name passes its limit.
+pub fn limit(alloc: Global, which: &[u8]) -> Result<Refusal, NoMemory>
+    ensures { IfOk result (λ refusal. refusal ≡ Refusal.Limit which.now) }
+{
+    Ok(Refusal::Limit(Name::from_slice(alloc, which)?))
+}
+
+/// P19: a row of a batch isn't accepted, in the table of this new name.
+pub fn refused_batch(alloc: Global, table: &Name, cause: &Cause) -> Result<Refusal, NoMemory>
+    ensures { IfOk result (λ refusal. refusal ≡ spec.refused_batch table.now cause.now) }
+{
+    Ok(Refusal::BackfillRefused(table.copy(alloc)?, cause.key, cause.code))
+}
+
+/// P5: a row can't stand in the new version alone.
+pub fn not_valid(alloc: Global, cause: &Cause) -> Result<Refusal, NoMemory>
+    ensures { IfOk result (λ refusal. refusal ≡ spec.not_valid cause.now) }
+{
+    match &cause.name {
+        Some(name) => Ok(Refusal::NotValid(name.copy(alloc)?, cause.key)),
+        None => Ok(Refusal::NotValid(Name::from_slice(alloc, b"")?, cause.key)),
+    }
+}

@@ -1,0 +1,243 @@
+//! What the start of a migration comes to.
+ghost use Rattle.std.specs.Prelude.{◌≡◌, IfOk, None, Some, map};
+ghost use Rattle.std.specs.List.{list_any};
+ghost use Rattle.mig_lens.specs.Laws.{adds_column};
+ghost use Rattle.row_rules.specs.Outcome.{Answers};
+ghost use Rattle.row_rules.specs.Steps as steps;
+ghost use Rattle.machine.specs.Migrate as spec;
+ghost use Rattle.machine.specs.Plain.{replied};
+
+use crate::events::{Asked, Reply};
+use crate::refusals::{limit, steps_left};
+use crate::states::{Mode, State};
+use crate::tables::lens_among;
+use mig_lens::{Fate, Lens, Migration, Op, Plan, PlanFault, Refusal, plan};
+use row_rules::{Kept, Stop, begun_row, show_heavy};
+use sql_base::{Copying, List, Name, NoMemory};
+use std::alloc::Global;
+
+// ---- whether it may start
+
+// An operation that isn't run yet, by its place.
+fn not_yet(alloc: Global, at: u64) -> Result<Refusal, NoMemory>
+    ensures { IfOk result (λ refusal. refusal ≡ spec.not_yet at) }
+{
+    let path = format!(in alloc; "operations[{at}]")?;
+    Ok(Refusal::BadJson(Name::from_slice(alloc, path.as_bytes())?))
+}
+
+fn is_run(op: &Op) -> bool
+    ensures { result ≡ adds_column op.now }
+{
+    match op {
+        Op::AddColumn { .. } => true,
+        _ => false,
+    }
+}
+
+// The first of these operations that isn't run yet.
+fn unrun(alloc: Global, ops: &[Op]) -> Result<Option<Refusal>, NoMemory>
+    ensures { IfOk result (λ refusal. refusal ≡ spec.unrun 0 ops.now) }
+{
+    for (at, op) in ops.iter().enumerate() {
+        if !is_run(op) {
+            return Ok(Some(not_yet(alloc, at as u64)?));
+        }
+    }
+    Ok(None)
+}
+
+fn active(alloc: Global, mode: &Mode) -> Result<Option<Refusal>, NoMemory>
+    ensures { IfOk result (λ refusal. refusal ≡ spec.active mode.now) }
+{
+    match mode {
+        Mode::Calm => Ok(None),
+        Mode::Both { name, .. } => Ok(Some(Refusal::AlreadyActive(name.copy(alloc)?))),
+    }
+}
+
+fn taken(alloc: Global, s: &State, name: &Name) -> Result<Option<Refusal>, NoMemory>
+    ensures { IfOk result (λ refusal. refusal ≡ spec.taken s.now name.now) }
+{
+    if name.as_slice() == s.version.as_slice() {
+        Ok(Some(Refusal::NameTaken(name.copy(alloc)?)))
+    } else {
+        Ok(None)
+    }
+}
+
+/// Why the migration can't be started now: an operation that isn't run yet (P16), steps of tidying that are left (P3), a
+/// migration that is active (P1), or a name that the current version has (P6).
+pub fn may_not_start(alloc: Global, s: &State, m: &Migration) -> Result<Option<Refusal>, NoMemory>
+    ensures { IfOk result (λ refusal. refusal ≡ spec.may_not_start s.now m.now) }
+{
+    if let Some(refusal) = unrun(alloc, m.operations.as_slice())? {
+        return Ok(Some(refusal));
+    }
+    if let Some(refusal) = steps_left(s) {
+        return Ok(Some(refusal));
+    }
+    if let Some(refusal) = active(alloc, &s.mode)? {
+        return Ok(Some(refusal));
+    }
+    taken(alloc, s, &m.name)
+}
+
+// ---- its plan
+
+// A migration that has no plan is refused for the plan's fault.
+fn unplanned(alloc: Global, fault: PlanFault) -> Result<Refusal, NoMemory>
+    ensures { IfOk result (λ refusal. refusal ≡ spec.unplanned fault) }
+{
+    let refusal = match fault {
+        PlanFault::NoSuchTable(name) => Refusal::NoSuchTable(name),
+        PlanFault::NoSuchColumn(table, name) => Refusal::NoSuchColumn(table, name),
+        PlanFault::Exists(name) => Refusal::Exists(name),
+        PlanFault::KeyColumn(table) => Refusal::KeyColumn(table),
+        PlanFault::ColumnTwice(table, column) => Refusal::ColumnTwice(table, column),
+        PlanFault::UpNeeded(table, column) => Refusal::UpNeeded(table, column),
+        PlanFault::DownNeeded(table, column) => Refusal::DownNeeded(table, column),
+        PlanFault::BadExpr(place) => Refusal::BadExpr(place),
+        PlanFault::BadType(place) => Refusal::BadType(place),
+        PlanFault::Limit(which) => Refusal::Limit(which),
+        PlanFault::NotYet(at) => not_yet(alloc, at)?,
+        PlanFault::NoMemory => return Err(NoMemory),
+    };
+    Ok(refusal)
+}
+
+/// The migration's plan over the current version, or the refusal of one that has none.
+pub fn planned(alloc: Global, s: &State, m: &Migration) -> Result<Plan, Stop<Refusal>>
+    ensures { Answers (spec.planned s.now m.now) result }
+{
+    match plan(alloc, &s.schema, s.next_table, m) {
+        Ok(plan) => Ok(plan),
+        Err(PlanFault::NoMemory) => Err(Stop::NoMemory),
+        Err(fault) => Err(Stop::Because(unplanned(alloc, fault)?)),
+    }
+}
+
+// ---- the rows that stand
+
+fn begun_all(alloc: Global, lens: &Lens, rows: &[Kept]) -> Result<List<Kept>, NoMemory>
+    ensures { IfOk result (λ begun. begun ≡ map (steps.begun_row lens.now) rows.now) }
+{
+    let mut begun = List::new(alloc);
+    for row in rows {
+        begun.push(begun_row(alloc, lens, row)?)?;
+    }
+    Ok(begun)
+}
+
+fn begun_table(
+    alloc: Global,
+    fates: &[(u32, Fate)],
+    table: &(u32, List<Kept>),
+) -> Result<(u32, List<Kept>), NoMemory>
+    ensures { IfOk result (λ begun. begun ≡ spec.begun_table fates.now table.now) }
+{
+    match lens_among(fates, table.0) {
+        Some(lens) => Ok((table.0, begun_all(alloc, lens, table.1.as_slice())?)),
+        None => table.copy(alloc),
+    }
+}
+
+fn begun_tables(
+    alloc: Global,
+    fates: &[(u32, Fate)],
+    tables: &[(u32, List<Kept>)],
+) -> Result<List<(u32, List<Kept>)>, NoMemory>
+    ensures { IfOk result (λ begun. begun ≡ map (spec.begun_table fates.now) tables.now) }
+{
+    let mut begun = List::new(alloc);
+    for table in tables {
+        begun.push(begun_table(alloc, fates, table)?)?;
+    }
+    Ok(begun)
+}
+
+// ---- their weight
+
+fn has_heavy(
+    alloc: Global,
+    fates: &[(u32, Fate)],
+    table: &(u32, List<Kept>),
+) -> Result<bool, NoMemory>
+    ensures { IfOk result (λ heavy. heavy ≡ spec.has_heavy fates.now table.now) }
+{
+    match lens_among(fates, table.0) {
+        Some(lens) => show_heavy(alloc, lens, &table.1.as_slice()),
+        None => Ok(false),
+    }
+}
+
+// P20: the new version would show a row too heavy.
+fn too_heavy(alloc: Global, s: &State, plan: &Plan) -> Result<Option<Refusal>, NoMemory>
+    ensures { IfOk result (λ refusal. refusal ≡ spec.too_heavy s.now plan.now) }
+{
+    for table in s.tables.as_slice() {
+        if has_heavy(alloc, plan.fates.as_slice(), table)? {
+            return Ok(Some(limit(alloc, b"row")?));
+        }
+    }
+    Ok(None)
+}
+
+// ---- the start
+
+fn started(alloc: Global, s: &State, name: &Name, plan: Plan) -> Result<State, NoMemory>
+    ensures { IfOk result (λ t. t ≡ spec.started s.now name.now plan) }
+{
+    let tables = begun_tables(alloc, plan.fates.as_slice(), s.tables.as_slice())?;
+    Ok(State {
+        version: s.version.copy(alloc)?,
+        schema: s.schema.copy(alloc)?,
+        mode: Mode::Both {
+            name: name.copy(alloc)?,
+            schema: plan.schema,
+            fates: plan.fates,
+        },
+        left: s.left,
+        kind: s.kind,
+        next_table: s.next_table,
+        tables,
+        lost_columns: s.lost_columns.copy(alloc)?,
+    })
+}
+
+fn start_planned(
+    alloc: Global,
+    s: &State,
+    m: &Migration,
+    plan: Plan,
+) -> Result<(Reply, State), Stop<Refusal>>
+    ensures { Answers (replied (spec.start_planned s.now m.now plan)) result }
+{
+    if let Some(refusal) = too_heavy(alloc, s, &plan)? {
+        return Err(Stop::Because(refusal));
+    }
+    Ok((
+        Reply::Start(m.name.copy(alloc)?),
+        started(alloc, s, &m.name, plan)?,
+    ))
+}
+
+fn start_read(alloc: Global, s: &State, m: &Migration) -> Result<(Reply, State), Stop<Refusal>>
+    ensures { Answers (replied (spec.start_read s.now m.now)) result }
+{
+    if let Some(refusal) = may_not_start(alloc, s, m)? {
+        return Err(Stop::Because(refusal));
+    }
+    let plan = planned(alloc, s, m)?;
+    start_planned(alloc, s, m, plan)
+}
+
+/// What the start of what was asked for comes to.
+pub fn start(alloc: Global, s: &State, asked: &Asked) -> Result<(Reply, State), Stop<Refusal>>
+    ensures { Answers (replied (spec.start s.now asked.now)) result }
+{
+    match asked {
+        Asked::Read(m) => start_read(alloc, s, m),
+        Asked::Refused(refusal) => Err(Stop::Because(refusal.copy(alloc)?)),
+    }
+}
