@@ -1,7 +1,7 @@
 -- What the machine answers to the commands of a migration, and what they leave.
 --
 -- That a migration is started, that the rows which stood then are filled by `up` in batches, and that it is then completed, which takes the old version away: pgroll's documentation. All else is our own.
-use Rattle.std.specs.Prelude.{ℕ, ◌+◌, ℤ, List, [], ◌∷◌, ◌++◌, ◌==◌, Bool, false, ◌||◌, Option, Some, None, Result, Ok, Err, codes, decimal, is_none, is_some, length, map, nat_lt, not, take, unwrap_or, sum_by, if◌then◌else◌}
+use Rattle.std.specs.Prelude.{ℕ, ◌+◌, ℤ, List, [], ◌∷◌, ◌++◌, ◌==◌, Bool, false, ◌||◌, Option, Some, None, Result, Ok, Err, codes, decimal, is_some, length, map, nat_lt, not, take, unwrap_or, sum_by, if◌then◌else◌}
 use Rattle.std.specs.List.{filter, filter_map, list_any, zip}
 use Rattle.std.specs.Option.{option_and_then, option_map, option_map_or, option_or}
 use Rattle.std.specs.Str.{bytes_eq}
@@ -21,7 +21,7 @@ use Rattle.row_rules.specs.Steps.{begun_row, invalid_cause, show_heavy}
 use Rattle.machine.specs.Done.{CommandOutcome, Done, Started, Stepped, answered}
 use Rattle.machine.specs.State.{Shared, filling_site, lens_among, missing_keys, rows_of, shared, table_on}
 use Rattle.machine.specs.Statement.{changed}
-use Rattle.machine.specs.Words.{Asked, Both, Calm, Cause, Cell, Change, Complete, Fate, Filled, Kept, Kind, Lens, Migrates, Migration, Mode, New, NotRead, Plan, Refusal, Schema, Start, State, Value, and_then, first_some, guarded, map_fault, table_numbered, without}
+use Rattle.machine.specs.Words.{Asked, Both, Calm, Cause, Cell, Change, Complete, Fate, Filled, Kept, Lens, Migrates, Migration, Mode, New, NotRead, Plan, Refusal, Schema, Start, State, Value, and_then, first_some, guarded, map_fault, table_numbered, without}
 use Rattle.machine.specs.Words.job
 use Rattle.machine.specs.Words.kind
 

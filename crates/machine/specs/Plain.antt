@@ -11,7 +11,7 @@ use Rattle.machine.specs.declared.tables.VersionSeen.{VersionSeen}
 use Rattle.machine.specs.Done.{Done}
 use Rattle.machine.specs.State.{Found, Shared, Version}
 use Rattle.machine.specs.Statement.{Begun, Sets, Shows, Writes}
-use Rattle.machine.specs.Words.{Reply, State}
+use Rattle.machine.specs.Words.{Refusal, Refused, Reply, State}
 
 abbrev pub version : VersionSeen → Version
 version seen = record { side = seen.side; schema = seen.schema.now }
@@ -34,6 +34,15 @@ AnswersAs meaning wanted (Err (Because cause)) = wanted ≡ Err cause
 AnswersAs meaning wanted (Err NoMemory) = Unit {0}
 
 -- The reply and the state afterwards, without what was written.
+abbrev pub told : Done → Reply × State
+told done = (done.reply, done.after)
+
 abbrev pub replied : {E : Type 0} → Result Done E → Result (Reply × State) E
-replied (Ok done) = Ok (done.reply, done.after)
+replied (Ok done) = Ok (told done)
 replied (Err cause) = Err cause
+
+-- A refused command is answered its refusal.
+abbrev pub with_refusal : {T : Type 0} → Result T (Stop Refusal) → Result T (Stop Reply)
+with_refusal (Ok value) = Ok value
+with_refusal (Err (Because refusal)) = Err (Because (Refused refusal))
+with_refusal (Err NoMemory) = Err NoMemory

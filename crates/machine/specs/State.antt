@@ -2,12 +2,11 @@
 --
 -- A client sees the tables through a version. A version has a name and a schema: its tables, each with its name, its number and its shape. A table keeps its number in every version, while its name and its shape may differ. A statement carries a path: names of versions, each with public_ in front. While a migration is active two versions stand, the old side and the new side, and a row has a half for each version that has its table; in a table that both have, the new half may be missing until the row is filled. That both are usable meanwhile is pgroll's (its documentation, How pgroll works). While no migration is active one version stands, and it is the old side.
 use Rattle.std.specs.Prelude.{ℕ, ℤ, List, [], ◌∷◌, ◌++◌, ◌==◌, false, Option, Some, None, codes, find, length, map, sum_by, if◌then◌else◌}
-use Rattle.std.specs.List.{filter}
 use Rattle.std.specs.Option.{option_map, option_map_or, option_and_then, option_or}
 use Rattle.std.specs.Str.{bytes_eq}
 use Rattle.row_rules.specs.Rows as rows
 use Rattle.row_rules.specs.Site.{Beside, Site, name_of, number_of}
-use Rattle.machine.specs.Words.{Bigint, Both, Calm, Column, Fate, Kept, Lens, Mode, New, Nothing, Null, Old, Schema, Shape, Side, State, Table, Text, Ty, Value, lens_in, table_numbered}
+use Rattle.machine.specs.Words.{Bigint, Both, Calm, Column, Fate, Kept, Lens, Mode, New, Nothing, Null, Old, Schema, Shape, Side, State, Table, Text, Ty, lens_in, table_numbered}
 
 -- ---- versions and their tables
 

@@ -1,16 +1,15 @@
 -- What the machine answers to a statement, and what the statement leaves.
 --
 -- A statement has three sections. Its begin settles its table, its names and types and an INSERT's values, or answers it. Then its rows are made, one after another. Then all that was made is looked at together, and stands or is refused.
-use Rattle.std.specs.Prelude.{ℕ, List, Option, Some, None, Result, Ok, Err, codes, length, nat_lt, if◌then◌else◌}
+use Rattle.std.specs.Prelude.{ℕ, List, Option, Some, None, Result, Ok, codes, length, nat_lt, if◌then◌else◌}
 use Rattle.std.specs.Option.{ok_or, option_map, option_or}
-use Rattle.row_rules.specs.Accept.{keys_of}
 use Rattle.row_rules.specs.Causes.{max_reply, row_error}
 use Rattle.row_rules.specs.Changes.{after_changes, changes, keys_changed, refused_together}
 use Rattle.row_rules.specs.Settle.{delete_job, insert_job, query_error, update_job}
 use Rattle.row_rules.specs.Show.{rows_shown}
 use Rattle.row_rules.specs.Site.{Site, name_of, number_of, shape_of}
 use Rattle.machine.specs.Done.{Done, Outcome, answered, wrote_rows}
-use Rattle.machine.specs.State.{Found, row_count, rows_of, site_of, table_of, with_rows}
+use Rattle.machine.specs.State.{row_count, rows_of, site_of, table_of, with_rows}
 use Rattle.machine.specs.Words.{C42601, C42P01, C53200, C54000, Change, Delete, DeleteFrom, Error, Expr, Insert, InsertInto, Items, Job, Query, Reply, Select, Set, SetPath, SqlError, State, Stmt, Update, UpdateOf, and_then, guarded, map_fault}
 use Rattle.machine.specs.Words.job
 use Rattle.machine.specs.Words.{Fill, Kept}

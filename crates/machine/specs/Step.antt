@@ -1,5 +1,5 @@
 -- The machine: which reply it may give to an event, and which state it goes on to.
-use Rattle.std.specs.Prelude.{◌≡◌, ◌≤◌, ◌⊎◌, ℕ, ◌+◌, ℤ, List, [], ◌∷◌, Bool, true, false, Option, Some, None, Result, Ok, Err, codes, length}
+use Rattle.std.specs.Prelude.{◌≡◌, ◌≤◌, ◌⊎◌, ℕ, ◌+◌, ℤ, List, [], ◌∷◌, Bool, true, false, Option, Some, None, Ok, Err, codes, length}
 use Rattle.std.specs.List.{filter}
 use Rattle.machine.specs.declared.events.Entry.{Entry}
 use Rattle.machine.specs.Done.{Outcome, Wrote, after_of, answered, as_outcome, reply_to, wrote_by}

@@ -1,10 +1,12 @@
 //! The machine that the product is measured by: its states, what happens to them, and what it answers.
 #![tactic(auto)]
 
+mod complete;
 mod events;
 mod fill;
 pub mod laws;
 pub mod parts;
+mod plain;
 mod refusals;
 mod replies;
 mod rows;
@@ -14,8 +16,11 @@ mod statement;
 mod states;
 mod tables;
 mod tasks;
+mod writing;
 
 pub use events::{Asked, Entry, Event, Reading, Reply};
+pub use plain::step;
+pub use row_rules::{Cause, Change, Halves, Job, Kept, SqlError, Stop, Table};
 pub use start_state::beginning;
 pub use states::{Mode, State};
 pub use tasks::Task;

@@ -1,0 +1,108 @@
+//! The machine's step, computed on its states in the plainest way: a yardstick for what computes it otherwise.
+ghost use Rattle.std.specs.Prelude.{◌≡◌, IfOk};
+ghost use Rattle.row_rules.specs.Outcome.{Answers};
+ghost use Rattle.machine.specs.Done.{as_outcome};
+ghost use Rattle.machine.specs.Plain as plain;
+ghost use Rattle.machine.specs.Plain.{replied};
+ghost use Rattle.machine.specs.Statement as statement;
+ghost use Rattle.machine.specs.Step as spec;
+
+use crate::complete::complete;
+use crate::events::{Event, Reading, Reply};
+use crate::fill::least_fill;
+use crate::replies::{over_limit, syntax, wide_literal};
+use crate::start::start;
+use crate::statement::{BegunRef, begun};
+use crate::states::State;
+use crate::writing::{shown, written};
+use mig_lens::Refusal;
+use row_rules::Stop;
+use sql_base::{Copying, Name, NoMemory, Stmt};
+use std::alloc::Global;
+
+// ---- statements
+
+fn path_set(alloc: Global, s: &State) -> Result<(Reply, State), Stop<Reply>>
+    ensures { Answers (replied (statement.finished s.now statement.Sets)) result }
+{
+    let same = s.copy(alloc)?;
+    Ok((Reply::Set, same))
+}
+
+fn finished(alloc: Global, s: &State, begun: &BegunRef<'_>) -> Result<(Reply, State), Stop<Reply>>
+    ensures { Answers (replied (statement.finished s.now (plain.begun begun.now))) result }
+{
+    match begun {
+        BegunRef::Writes(site, job) => written(alloc, s, *site, job),
+        BegunRef::Shows(site, items, condition) => shown(alloc, s, *site, items, condition),
+        BegunRef::Sets => path_set(alloc, s),
+    }
+}
+
+fn answer(
+    alloc: Global,
+    s: &State,
+    path: &[Name],
+    stmt: &Stmt,
+) -> Result<(Reply, State), Stop<Reply>>
+    ensures { Answers (replied (statement.answer s.now path.now stmt.now)) result }
+{
+    let begun = begun(alloc, s, path, stmt)?;
+    finished(alloc, s, &begun)
+}
+
+fn said(
+    alloc: Global,
+    s: &State,
+    path: &[Name],
+    reading: &Reading,
+) -> Result<(Reply, State), Stop<Reply>>
+    ensures { Answers (replied (spec.line_outcome s.now path.now reading.now)) result }
+{
+    match reading {
+        Reading::Stmt(stmt) => answer(alloc, s, path, stmt),
+        Reading::TooLong => Err(Stop::Because(over_limit(alloc, b"statement")?)),
+        Reading::Syntax => Err(Stop::Because(syntax())),
+        Reading::Wide => Err(Stop::Because(wide_literal())),
+        Reading::Deep => Err(Stop::Because(over_limit(alloc, b"depth")?)),
+    }
+}
+
+// ---- commands
+
+// A refused command is answered its refusal.
+fn answered(outcome: Result<(Reply, State), Stop<Refusal>>) -> Result<(Reply, State), Stop<Reply>>
+    ensures { result ≡ plain.with_refusal outcome }
+{
+    match outcome {
+        Ok(done) => Ok(done),
+        Err(Stop::Because(refusal)) => Err(Stop::Because(Reply::Refused(refusal))),
+        Err(Stop::NoMemory) => Err(Stop::NoMemory),
+    }
+}
+
+fn outcome(alloc: Global, s: &State, event: &Event) -> Result<(Reply, State), Stop<Reply>>
+    ensures { Answers (replied (spec.outcome_of s.now event.now)) result }
+{
+    match event {
+        Event::Said(path, reading) => said(alloc, s, path.as_slice(), reading),
+        Event::Start(asked) => answered(start(alloc, s, asked)),
+        Event::Fill(count) => answered(least_fill(alloc, s, *count)),
+        Event::Complete => answered(complete(alloc, s)),
+    }
+}
+
+/// What an event comes to in a state, where memory is there: the state after it and the reply. A batch takes the least
+/// keys that are to be filled, of the first table that has any. An error is want of memory, or a number that doesn't fit:
+/// more than 4,294,967,295 rows that are written or columns that are lost, or a lost weight of more than 64 bits.
+///
+/// It is meant for small states: each event copies the state.
+pub fn step(alloc: Global, s: &State, event: &Event) -> Result<(State, Reply), NoMemory>
+    ensures { IfOk result (spec.IsPlainStep s.now event.now) }
+{
+    match outcome(alloc, s, event) {
+        Ok((reply, after)) => Ok((after, reply)),
+        Err(Stop::Because(reply)) => Ok((s.copy(alloc)?, reply)),
+        Err(Stop::NoMemory) => Err(NoMemory),
+    }
+}
