@@ -1,5 +1,5 @@
 -- What the parts of a call do, for the contracts of the functions that do them.
-use Rattle.std.specs.Prelude.{◌≡◌, ◌⊎◌, ℕ, ◌+◌, List, [], ◌∷◌, Bool, ◌||◌, false, if◌then◌else◌, length, Option, None, Some, Result, Ok, Err}
+use Rattle.std.specs.Prelude.{◌≡◌, ◌⊎◌, ℕ, ◌+◌, List, [], ◌∷◌, Bool, ◌||◌, false, if◌then◌else◌, length, Result, Ok, Err}
 use Rattle.std.specs.Io.KnownBytes.{Appends, Keeps}
 use Rattle.pg_io.specs.Outside.{Known, Cut, Quiet}
 use Rattle.pg_io.specs.declared.whole.InputFault.{InputFault}
