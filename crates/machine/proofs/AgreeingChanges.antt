@@ -1,22 +1,20 @@
 -- Carried columns have one value in both halves of each row that a job puts.
-use Rattle.std.proofs.Common.{◌≡◌, ◌∙◌, ℕ, ℤ, List, [], ◌∷◌, Bool, true, false, Option, Some, None, Result, Ok, Err, ap, refl, sym, subst, map, unwrap_or}
+use Rattle.std.proofs.Common.{◌≡◌, ◌∙◌, ℕ, ℤ, List, [], ◌∷◌, Option, Some, None, Ok, ap, sym, subst, unwrap_or}
 use Rattle.std.specs.Prelude.{slice_index_or}
 use Rattle.std.specs.List.{AllByRecursion as Each}
 use Rattle.sql_base.specs.Laws.{and_then_ok, ok_same, some_same}
-use Rattle.sql_base.specs.Outcome.{and_then, every}
 use Rattle.sql_base.specs.declared.values.Value.{Value}
 use Rattle.sql_base.specs.declared.values.Value.TheVariants.{Null}
-use Rattle.mig_lens.specs.Lens.{backward, carries, forward}
-use Rattle.row_rules.specs.declared.kinds.Change.TheVariants.{Put, Remove}
+use Rattle.mig_lens.specs.Lens.{forward}
 use Rattle.row_rules.specs.Accept.{sound, wrong}
 use Rattle.row_rules.specs.Causes.{value_cause}
-use Rattle.row_rules.specs.Changes.{altered, altered_halves, altered_row, changes, filled_row, matching, new_row, put_all, remade}
+use Rattle.row_rules.specs.Changes.{altered, altered_halves, altered_row, changes, filled_row, new_row, remade}
 use Rattle.row_rules.specs.Outcome.{map_fault}
 use Rattle.row_rules.specs.Site.{Beside, Site, filled_beside, half, half_beside, halves_on, key_of, other, other_half, shape_of, touched, touched_by}
 use Rattle.machine.specs.Below.{Below}
 use Rattle.machine.specs.Laws.{ChangesAgree}
-use Rattle.machine.specs.Sites.{BesideStands, ChangeAgrees, HalvesAgree, SiteStands}
-use Rattle.machine.specs.Words.{Cause, Change, Expr, Halves, Job, Kept, New, Old, Side, Table}
+use Rattle.machine.specs.Sites.{BesideStands, HalvesAgree}
+use Rattle.machine.specs.Words.{Expr, Halves, Job, Kept, New, Old, Side, Table}
 use Rattle.machine.specs.Words.job
 use Rattle.machine.proofs.Accepting.{map_fault_ok, without_ok}
 use Rattle.machine.proofs.Filling.{fills}

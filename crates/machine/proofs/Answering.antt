@@ -1,5 +1,5 @@
 -- No statement is answered a command's refusal.
-use Rattle.std.proofs.Common.{◌≡◌, inl, inr, ℕ, List, Bool, true, false, if◌then◌else◌, codes, length, nat_lt, Option, Some, None, Result, Ok, Err, sym, subst, option_map}
+use Rattle.std.proofs.Common.{inl, inr, ℕ, List, Bool, true, false, if◌then◌else◌, codes, length, nat_lt, Option, Some, None, Result, Ok, Err, sym, subst, option_map}
 use Rattle.std.specs.Option.{ok_or, option_or}
 use Rattle.sql_base.specs.Outcome.{and_then}
 use Rattle.row_rules.specs.Causes.{max_reply, row_error}
@@ -11,9 +11,9 @@ use Rattle.machine.specs.declared.events.Reading.{Reading}
 use Rattle.machine.specs.Done.{Outcome, Wrote, answered}
 use Rattle.machine.specs.Laws.{OnlyCommandsAreRefused}
 use Rattle.machine.specs.State.{Found, row_count, with_rows, rows_of, site_of, table_of}
-use Rattle.machine.specs.Statement.{max_insert, max_rows, over_limit, rows_after, too_many_rows, Begun, Writes, Shows, Sets, begun, changed, error_reply, finished, long_insert, no_table, on_table, refused_all, settled, too_many, writes, written, written_reply}
+use Rattle.machine.specs.Statement.{max_insert, max_rows, over_limit, rows_after, too_many_rows, Begun, Writes, Shows, Sets, begun, changed, error_reply, finished, no_table, on_table, settled, writes, written_reply}
 use Rattle.machine.specs.Step.{ComesTo, line_outcome}
-use Rattle.machine.specs.Words.{Cause, Change, Deep, DeleteFrom, Expr, InsertInto, Job, Query, Read, Refused, Reply, Select, SetPath, SqlError, State, Stmt, Syntax, TooLong, UpdateOf, Wide, guarded, map_fault}
+use Rattle.machine.specs.Words.{Cause, Change, Deep, DeleteFrom, InsertInto, Job, Query, Read, Refused, Reply, Select, SetPath, SqlError, State, Stmt, Syntax, TooLong, UpdateOf, Wide, guarded, map_fault}
 use Rattle.machine.specs.Words.job
 
 -- It isn't a command's refusal.

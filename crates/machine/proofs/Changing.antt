@@ -1,15 +1,14 @@
 -- The changes of a statement or of a batch lead from a state that stands to one.
-use Rattle.std.proofs.Common.{◌≡◌, ◌∙◌, ℕ, ◌≤◌, List, [], ◌∷◌, Bool, true, false, ◌==◌, Ok, ap, refl, sym, subst, length, find}
+use Rattle.std.proofs.Common.{◌≡◌, ℕ, ◌≤◌, List, [], ◌∷◌, false, ◌==◌, Ok, ap, length, find}
 use Rattle.std.specs.List.{AllByRecursion as Each}
 use Rattle.std.specs.Option.{option_map_or}
 use Rattle.row_rules.specs.Changes.{after_changes, changes}
 use Rattle.row_rules.specs.Site.{number_of, shape_of}
-use Rattle.machine.specs.Sites.{OfPut, ChangeStands, JobStands, SiteRow, TableStands}
-use Rattle.machine.specs.Standing.{Ascends, IsState, NoneLost, NothingLost, RowStands, RowsStand, may_lose}
+use Rattle.machine.specs.Sites.{JobStands, SiteRow, TableStands}
+use Rattle.machine.specs.Standing.{IsState, NoneLost, RowStands, RowsStand, may_lose}
 use Rattle.machine.specs.State.{Found, lost_columns_of, row_count, rows_of, site_of, with_rows}
 use Rattle.machine.specs.Statement.{max_rows}
 use Rattle.machine.specs.Words.{Change, Job, Kept, State}
-use Rattle.row_rules.specs.declared.kinds.Change.TheVariants.{Put, Remove}
 use Rattle.machine.specs.Below.{Below}
 use Rattle.machine.proofs.FoundSites.{row_off_site, row_on_site, site_stands}
 use Rattle.machine.proofs.Moving.{each_both, each_so}
@@ -55,9 +54,10 @@ module _ (below : Below) (s : State) (stands : IsState s) (found : Found) (f : T
 
   rows_off_site : (rows : List Kept) → Each (SiteRow (LostIn s) (site_of s found)) rows → RowsStand s (number_of found.table) rows × (may_lose s.kind s.left ≡ false → NoneLost rows)
   rows_off_site rows h =
-      let site = site_of s found in
-      (each_row s (number_of found.table) rows (each_so (SiteRow (LostIn s) site) (RowStands s (number_of found.table)) (row_off_site s stands (LostIn s) found f) rows h),
-      none_lost_each s rows (each_so (SiteRow (LostIn s) site) (λ row. LostIn s row.lost) (λ row r. r.lost) rows h))
+      let site = site_of s found in (
+        each_row s (number_of found.table) rows (each_so (SiteRow (LostIn s) site) (RowStands s (number_of found.table)) (row_off_site s stands (LostIn s) found f) rows h),
+        none_lost_each s rows (each_so (SiteRow (LostIn s) site) (λ row. LostIn s row.lost) (λ row r. r.lost) rows h),
+      )
 
   pub changed_stands : (what : Job) (some : List Kept) (all : List Change) → JobStands (shape_of found.table) what → Each (SiteRow (LostIn s) (site_of s found)) some → changes (site_of s found) what some ≡ Ok all
       → row_count (with_rows s (number_of found.table) (after_changes all (rows_of s (number_of found.table)))) ≤ max_rows → IsState (with_rows s (number_of found.table) (after_changes all (rows_of s (number_of found.table))))

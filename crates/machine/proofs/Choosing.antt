@@ -1,5 +1,5 @@
 -- The plain step is one of the machine's steps: the least missing keys are a choice of missing keys.
-use Rattle.std.proofs.Common.{◌≡◌, inl, ℕ, zero, suc, ◌≤◌, ℤ, List, [], ◌∷◌, Bool, true, false, ◌||◌, Option, Some, None, refl, ◌∙◌, sym, ap, subst, if◌then◌else◌, length, map, take, filter, is_none, nat_lt, arith, int_cmp, int_eq, Ordering, Less, Equal, Greater}
+use Rattle.std.proofs.Common.{◌≡◌, inl, ℕ, zero, suc, ◌≤◌, ℤ, List, [], ◌∷◌, Bool, true, false, ◌||◌, Option, Some, None, refl, ◌∙◌, sym, ap, subst, if◌then◌else◌, length, map, take, filter, nat_lt, arith, int_cmp, int_eq, Ordering, Less, Equal, Greater}
 use Rattle.std.specs.List.{list_any}
 use Rattle.std.specs.Option.{option_map_or, option_or}
 use Rattle.std.specs.Ordering.{is_eq, ordering_reverse}

@@ -22,7 +22,7 @@ use Rattle.row_rules.specs.declared.kinds.Kept.{Kept}
 use Rattle.row_rules.specs.declared.kinds.Cause.{Cause}
 use Rattle.row_rules.specs.declared.kinds.Change.{Change}
 use Rattle.row_rules.specs.declared.kinds.Change.TheVariants.{Put, Remove}
-use Rattle.row_rules.specs.Accept.{clashes_on, has_clash, has_key, present, unique_cause, keys_of}
+use Rattle.row_rules.specs.Accept.{clashes_on, has_key, present, unique_cause, keys_of}
 use Rattle.row_rules.specs.Causes.{constraint_cause}
 use Rattle.row_rules.specs.Changes.{after_changes, keys_changed, rows_put}
 use Rattle.row_rules.specs.Outcome.{first_some}

@@ -1,6 +1,6 @@
 -- Completing leads from a state that stands to one.
-use Rattle.std.proofs.Common.{◌≡◌, ◌∙◌, inl, inr, ℕ, ◌≤◌, ℤ, List, [], ◌∷◌, Bool, true, false, cond, Option, Some, None, Ok, Err, length, map, ap, refl, sym, subst}
-use Rattle.std.specs.Prelude.{◌==◌, is_none, is_some, nat_eq, sum_by, if◌then◌else◌}
+use Rattle.std.proofs.Common.{◌≡◌, ◌∙◌, inl, inr, ℕ, ◌≤◌, ℤ, List, [], ◌∷◌, true, false, cond, Option, Some, None, length, map, ap, refl, sym, subst}
+use Rattle.std.specs.Prelude.{◌==◌, is_none, is_some, nat_eq, sum_by}
 use Rattle.std.specs.List.{AllByRecursion as Each, filter, list_any}
 use Rattle.std.specs.Option.{option_and_then, option_map, option_map_or}
 use Rattle.std.proofs.lemmas.List.{length-map}
@@ -9,14 +9,11 @@ use Rattle.sql_base.specs.declared.values.Value.{Value}
 use Rattle.sql_eval.specs.Row.{least}
 use Rattle.mig_lens.specs.declared.columns.Lens.{Lens}
 use Rattle.mig_lens.specs.declared.columns.Side.TheVariants.{New}
-use Rattle.mig_lens.specs.declared.faults.Kind.{Kind}
 use Rattle.mig_lens.specs.declared.faults.Kind.TheVariants as kind
 use Rattle.mig_lens.specs.declared.faults.Refusal.{Refusal}
-use Rattle.mig_lens.specs.declared.faults.Refusal.TheVariants.{NotFilled, Unfinished}
+use Rattle.mig_lens.specs.declared.faults.Refusal.TheVariants.{NotFilled}
 use Rattle.mig_lens.specs.declared.plans.Fate.{Fate}
 use Rattle.mig_lens.specs.Plan.{Table, table_numbered}
-use Rattle.machine.specs.declared.events.Reply.{Reply}
-use Rattle.machine.specs.declared.events.Reply.TheVariants.{Complete}
 use Rattle.row_rules.specs.declared.kinds.Kept.{Kept}
 use Rattle.machine.specs.declared.states.Mode.{Mode}
 use Rattle.machine.specs.declared.states.Mode.TheVariants.{Calm, Both}
@@ -24,7 +21,6 @@ use Rattle.machine.specs.declared.states.State.{State}
 use Rattle.machine.specs.State.{Shared, lens_among, row_count, rows_of, shared, table_on}
 use Rattle.row_rules.specs.Site.{name_of}
 use Rattle.machine.specs.Statement.{max_rows}
-use Rattle.machine.specs.Done.{CommandOutcome}
 use Rattle.machine.specs.Migrate.{complete, completed, completed_row, finish, invalid, may_not_complete, not_filled, not_filled_in, not_valid, numbers_of, stepped, table_without_loss, tidied, without_loss}
 use Rattle.machine.specs.Standing.{HalfStands, IsState, ModeStands, NewStands, NewerStands, NoneLost, NumbersAscend, RowStands, StepsStand, TablesStand, VersionStands, may_lose, may_miss}
 use Rattle.machine.proofs.Outcomes.{Holds, Stands, holds_without}
@@ -46,9 +42,10 @@ kept_row : (s : State) (number : ℕ) (row : Kept) → RowStands s number row �
 kept_row s number row r = let there = row_carries s (emptied s) refl refl number row r in record { old = there.old; new = there.new }
 
 kept_table : (s : State) (u : Rows) → Carries s (emptied s) table_without_loss u
-kept_table s u ascend stand =
-    (ascends_mapped without_loss (λ row. refl) u.1 ascend,
-    rows_mapped s (emptied s) u.0 without_loss u.1 (each (λ row. RowStands s u.0 row → RowStands (emptied s) u.0 (without_loss row)) (kept_row s u.0) u.1) stand)
+kept_table s u ascend stand = (
+  ascends_mapped without_loss (λ row. refl) u.1 ascend,
+  rows_mapped s (emptied s) u.0 without_loss u.1 (each (λ row. RowStands s u.0 row → RowStands (emptied s) u.0 (without_loss row)) (kept_row s u.0) u.1) stand,
+)
 
 nothing_lost : (rows : List Kept) → NoneLost (map without_loss rows)
 nothing_lost rows = map_each without_loss (λ row. row.lost ≡ 0) rows (each (λ row. 0 ≡ 0) (λ row. refl) rows)
@@ -97,7 +94,7 @@ no_least : (keys : List ℤ) (refuse : ℤ → Refusal) → option_map refuse (l
 no_least [] refuse h = refl
 no_least (key ∷ keys) refuse h = cc
 
-abbrev IsFilled : Kept → Type 0
+abbrev pub IsFilled : Kept → Type 0
 IsFilled row = is_some row.halves.new ≡ true
 
 abbrev unfilled_keys : List Kept → List ℤ
@@ -133,10 +130,10 @@ completed_row_stands s name schema fates is number row filled stands =
     }
 
 -- A table that both versions have.
-abbrev IsPaired : State → Rows → Type 0
+abbrev pub IsPaired : State → Rows → Type 0
 IsPaired s table = (lens : Lens) × Pair s table.0 lens
 
-all_paired : (s : State) (name : List ℕ) (schema : Schema) (fates : List (ℕ × Fate)) → s.mode ≡ Both name schema fates → NewerStands s name schema fates → Each (IsPaired s) s.tables
+pub all_paired : (s : State) (name : List ℕ) (schema : Schema) (fates : List (ℕ × Fate)) → s.mode ≡ Both name schema fates → NewerStands s name schema fates → Each (IsPaired s) s.tables
 all_paired s name schema fates is newer = each_so (λ u. list_any (nat_eq u.0) (numbers_of s) ≡ true) (IsPaired s) pair s.tables (each_among s.tables)
   where
     pair : (u : Rows) → list_any (nat_eq u.0) (numbers_of s) ≡ true → IsPaired s u
@@ -144,7 +141,7 @@ all_paired s name schema fates is newer = each_so (λ u. list_any (nat_eq u.0) (
         let kept = newer.kept u.0 among in
         (kept.0, paired s name schema fates is u.0 kept.0 kept.1 (newer.joined u.0 kept.0 kept.1))
 
-whole_tables : (s : State) → NumbersAscend (numbers_of s) → Each (IsPaired s) s.tables → not_filled s (numbers_of s) ≡ None → Each (λ table. Each IsFilled table.1) s.tables
+pub whole_tables : (s : State) → NumbersAscend (numbers_of s) → Each (IsPaired s) s.tables → not_filled s (numbers_of s) ≡ None → Each (λ table. Each IsFilled table.1) s.tables
 whole_tables s ascend pairs none =
     each_both (IsFound s.tables) (λ u. IsPaired s u × (not_filled_in s u.0 ≡ None)) (λ u. Each IsFilled u.1) whole s.tables (each_found s.tables ascend)
     (each_both (IsPaired s) (λ u. not_filled_in s u.0 ≡ None) (λ u. IsPaired s u × (not_filled_in s u.0 ≡ None)) (λ u p q. (p, q)) s.tables pairs (all_filled s s.tables none))

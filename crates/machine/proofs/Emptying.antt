@@ -1,5 +1,5 @@
 -- A batch that fills rows leaves fewer rows that have no new half.
-use Rattle.std.proofs.Common.{◌≡◌, ℕ, ◌+◌, ◌<◌, ◌≤◌, ℤ, List, [], ◌∷◌, Bool, true, false, ◌&&◌, ◌||◌, cond, Option, Some, None, Ok, Err, is_none, unwrap_or, refl, ◌∙◌, sym, ap, subst, length, map, sum_by, arith, int_cmp, int_eq, Ordering, Less, Equal, Greater, option_map}
+use Rattle.std.proofs.Common.{◌≡◌, ℕ, ◌+◌, ◌<◌, ◌≤◌, ℤ, List, [], ◌∷◌, Bool, true, false, ◌&&◌, ◌||◌, cond, Option, Some, None, Ok, is_none, unwrap_or, refl, ◌∙◌, sym, ap, subst, length, map, sum_by, arith, int_cmp, int_eq, Ordering, Less, Equal, Greater, option_map}
 use Rattle.std.specs.List.{AllByRecursion as Each, count_by, filter, list_any}
 use Rattle.std.specs.Option.{option_map_or}
 use Rattle.std.specs.Ordering.{match_ordering, is_eq}

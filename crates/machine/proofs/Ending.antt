@@ -1,5 +1,5 @@
 -- A step of completing that isn't the last leaves fewer steps.
-use Rattle.std.proofs.Common.{◌≡◌, inl, inr, ℕ, ◌<◌, ◌≤◌, ◌==◌, Bool, true, false, cond, Ok, Err, ◌∙◌, ap, refl, arith}
+use Rattle.std.proofs.Common.{◌≡◌, inl, inr, ℕ, ◌<◌, ◌≤◌, ◌==◌, Bool, true, false, cond, ◌∙◌, ap, arith}
 use Rattle.mig_lens.specs.declared.faults.Kind.{Kind}
 use Rattle.mig_lens.specs.declared.faults.Kind.TheVariants as kind
 use Rattle.machine.specs.declared.events.Reply.{Reply}

@@ -1,5 +1,5 @@
 -- Filling rows, whichever they are, leads from a state that stands to one.
-use Rattle.std.proofs.Common.{◌≡◌, ◌∙◌, ℕ, ◌≤◌, ℤ, List, [], ◌∷◌, Bool, true, false, ◌&&◌, ◌||◌, cond, Option, Some, None, Result, Ok, Err, length, map, ap, refl, sym, subst, le_of_eq, option_map}
+use Rattle.std.proofs.Common.{◌≡◌, ◌∙◌, ℕ, ℤ, List, [], ◌∷◌, Bool, true, false, ◌&&◌, ◌||◌, cond, Option, Some, None, Ok, length, map, ap, refl, sym, subst, le_of_eq, option_map}
 use Rattle.std.specs.List.{AllByRecursion as Each, filter, list_all, list_any}
 use Rattle.std.specs.Option.{option_map_or}
 use Rattle.std.specs.Ordering.{int_eq}
@@ -7,19 +7,19 @@ use Rattle.std.proofs.lemmas.Cmp.{int_eq_equiv}
 use Rattle.std.proofs.lemmas.List.{length-map}
 use Rattle.sql_base.specs.Laws.{all_true, and_then_ok, ok_same}
 use Rattle.sql_base.specs.Outcome.{and_then, every}
-use Rattle.row_rules.specs.declared.kinds.Change.TheVariants.{Put, Remove}
+use Rattle.row_rules.specs.declared.kinds.Change.TheVariants.{Put}
 use Rattle.row_rules.specs.Accept.{has_key, keys_of, sound, wrong}
 use Rattle.row_rules.specs.Causes.{value_cause}
-use Rattle.row_rules.specs.Changes.{after_changes, cause_together, changes, filled_row, put_all}
+use Rattle.row_rules.specs.Changes.{after_changes, cause_together, changes, filled_row}
 use Rattle.row_rules.specs.Rows.{rows_at}
-use Rattle.row_rules.specs.Site.{Site, name_of, number_of, shape_of, touched}
+use Rattle.row_rules.specs.Site.{Site, name_of, number_of, touched}
 use Rattle.machine.specs.Done.{CommandOutcome, answered}
 use Rattle.machine.specs.Migrate.{batch, batch_settled, fill_keys, refused_batch}
 use Rattle.machine.specs.Sites.{SiteRow, TableStands}
 use Rattle.machine.specs.Standing.{IsState}
 use Rattle.machine.specs.State.{Found, Shared, filling_site, rows_of, shared, site_of}
 use Rattle.machine.specs.Statement.{changed}
-use Rattle.machine.specs.Words.{Cause, Change, Filled, Halves, Kept, New, Refusal, Reply, State, map_fault}
+use Rattle.machine.specs.Words.{Change, Filled, Halves, Kept, New, State, map_fault}
 use Rattle.machine.specs.Words.job
 use Rattle.machine.proofs.Accepting.{map_fault_ok, without_ok}
 use Rattle.machine.specs.Below.{Below}

@@ -1,9 +1,9 @@
 -- The site of a table that was found in a state that stands.
-use Rattle.std.proofs.Common.{◌≡◌, ◌∙◌, ℕ, Bool, true, false, Option, Some, None, ap, refl, sym, subst}
+use Rattle.std.proofs.Common.{◌≡◌, ◌∙◌, ℕ, Option, Some, None, ap, refl, sym, subst}
 use Rattle.std.specs.Option.{option_map}
 use Rattle.sql_base.specs.Laws.{some_same}
-use Rattle.row_rules.specs.Site.{Beside, number_of, shape_of}
-use Rattle.machine.specs.Sites.{BesideStands, SiteRow, SiteStands, TableStands, may_miss_beside, new_table, new_table_by, old_table, table_by}
+use Rattle.row_rules.specs.Site.{Beside, number_of}
+use Rattle.machine.specs.Sites.{BesideStands, SiteRow, SiteStands, TableStands, may_miss_beside, new_table_by, table_by}
 use Rattle.machine.specs.Standing.{HalfStands, IsState, NewStands, RowStands, may_miss}
 use Rattle.machine.specs.State.{Found, Shared, beside_on, shared, site_of, table_on}
 use Rattle.machine.specs.Words.{Kept, New, Old, Side, State, Table}

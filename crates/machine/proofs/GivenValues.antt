@@ -1,11 +1,10 @@
 -- Values that an INSERT and an UPDATE give are of their columns' types.
-use Rattle.std.proofs.Common.{◌≡◌, ◌∙◌, zero-add, add-zero, ℕ, zero, suc, ◌+◌, List, [], ◌∷◌, Bool, true, false, ◌&&◌, not, ◌==◌, Option, Some, None, Result, Ok, Err, ap, refl, sym, subst, arith, if◌then◌else◌, cond, map, length, zip, unwrap_or, slice_get, slice_index_or}
+use Rattle.std.proofs.Common.{◌≡◌, ◌∙◌, zero-add, add-zero, ℕ, zero, suc, ◌+◌, List, [], ◌∷◌, Bool, true, false, ◌==◌, Option, Some, None, Ok, Err, ap, refl, sym, subst, arith, if◌then◌else◌, cond, map, unwrap_or, slice_get, slice_index_or}
 use Rattle.std.specs.List.{AllByRecursion as Each, enumerate_from}
 use Rattle.std.specs.Map.{lookup}
 use Rattle.std.proofs.lemmas.Bool.Decides.{nat_tests}
-use Rattle.sql_base.specs.Fit.{fits_columns, has_type, is_integer, row_fits}
-use Rattle.sql_base.specs.Laws.{all_true, and_then_ok, both, either_none, ok_same, some_same}
-use Rattle.sql_base.specs.Outcome.{and_then, every}
+use Rattle.sql_base.specs.Fit.{fits_columns, has_type}
+use Rattle.sql_base.specs.Laws.{all_true, both, ok_same, some_same}
 use Rattle.sql_base.specs.declared.exprs.Expr.{Expr}
 use Rattle.sql_base.specs.declared.shapes.Column.{Column}
 use Rattle.sql_base.specs.declared.shapes.Shape.{Shape}
@@ -16,7 +15,6 @@ use Rattle.sql_base.specs.declared.values.Value.TheVariants as value
 use Rattle.sql_base.specs.declared.values.Value.TheVariants.{Null}
 use Rattle.sql_eval.specs.Eval.{eval}
 use Rattle.sql_eval.specs.Laws.{Sound, TypedIsSound}
-use Rattle.sql_eval.specs.Shape.{WellFormed, is_key}
 use Rattle.sql_eval.specs.Typing.{Typed, fits as type_fits, same, type_of}
 use Rattle.sql_eval.specs.Value.{Outcome}
 use Rattle.row_rules.specs.Causes.{bare_error, untyped}

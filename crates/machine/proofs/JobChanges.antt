@@ -1,9 +1,8 @@
 -- What holds of each row that a job makes holds of each row that its changes put.
-use Rattle.std.proofs.Common.{◌≡◌, ◌∙◌, ℕ, ℤ, List, [], ◌∷◌, Bool, true, false, Option, Some, None, Result, Ok, map, refl, subst, if◌then◌else◌}
+use Rattle.std.proofs.Common.{◌≡◌, List, [], ◌∷◌, Bool, true, false, Option, Some, None, Result, Ok, map, subst, if◌then◌else◌}
 use Rattle.std.specs.List.{AllByRecursion as Each, filter_map}
 use Rattle.sql_base.specs.Laws.{and_then_ok, ok_same}
 use Rattle.sql_base.specs.Outcome.{and_then, every}
-use Rattle.sql_base.specs.declared.values.Value.{Value}
 use Rattle.row_rules.specs.declared.kinds.Change.TheVariants.{Put, Remove}
 use Rattle.row_rules.specs.Causes.{value_cause}
 use Rattle.row_rules.specs.Changes.{altered_row, changes, filled_row, matching, new_row, passes, put_all, row_passed}
@@ -12,7 +11,7 @@ use Rattle.row_rules.specs.Site.{Site, shape_of, shown}
 use Rattle.machine.specs.Sites.{OfPut}
 use Rattle.machine.specs.Words.{Cause, Change, Expr, Job, Kept}
 use Rattle.machine.specs.Words.job
-use Rattle.machine.proofs.Accepting.{every_made, map_fault_ok}
+use Rattle.machine.proofs.Accepting.{every_made}
 use Rattle.machine.proofs.Moving.{map_each}
 
 -- ---- rows that pass

@@ -1,8 +1,6 @@
 -- The tables that a migration's lenses join.
-use Rattle.std.proofs.Common.{◌≡◌, ◌∙◌, ℕ, List, [], ◌∷◌, Bool, true, false, if◌then◌else◌, Option, Some, None, ap, refl, subst, arith}
-use Rattle.std.specs.Prelude.{◌==◌, find}
+use Rattle.std.proofs.Common.{◌≡◌, ◌∙◌, ℕ, List, true, Option, Some, None, ap, refl, subst}
 use Rattle.std.specs.Option.{option_and_then, option_map}
-use Rattle.std.proofs.lemmas.Bool.Decides.{nat_tests}
 use Rattle.sql_base.specs.declared.shapes.Schema.{Schema}
 use Rattle.sql_base.specs.declared.shapes.Shape.{Shape}
 use Rattle.mig_lens.specs.declared.columns.Lens.{Lens}
@@ -15,7 +13,7 @@ use Rattle.machine.specs.declared.states.Mode.TheVariants.{Both}
 use Rattle.machine.specs.declared.states.State.{State}
 use Rattle.machine.specs.Sites.{PairStands}
 use Rattle.machine.specs.State.{lens_among, lens_between, newer_schema, shared, table_on}
-use Rattle.row_rules.specs.Site.{number_of, shape_of}
+use Rattle.row_rules.specs.Site.{shape_of}
 
 shape_found : (found : Option Table) (shape : Shape) → option_map (λ table. table.2) found ≡ Some shape → (table : Table) × (found ≡ Some table) × (shape ≡ table.2)
 shape_found None shape h = cc

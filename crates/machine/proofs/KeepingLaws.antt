@@ -1,19 +1,17 @@
 -- Every step keeps constraints and limits, and so every run does that begins as the program does.
-use Rattle.std.proofs.Common.{◌≡◌, ℕ, ◌+◌, ℤ, List, [], ◌∷◌, Bool, true, false, ◌==◌, Option, Some, None, Ok, Err, filter, refl, sym, subst, codes, nat_lt, if◌then◌else◌, option_map}
-use Rattle.std.specs.List.{AllByRecursion as Each, list_any}
+use Rattle.std.proofs.Common.{◌≡◌, ℕ, ◌+◌, ℤ, List, [], ◌∷◌, ◌==◌, Option, Some, None, Ok, filter, refl, sym, subst, codes, nat_lt, if◌then◌else◌, option_map}
+use Rattle.std.specs.List.{list_any}
 use Rattle.std.specs.Option.{option_map_or, option_or}
 use Rattle.sql_base.specs.Laws.{either_none}
 use Rattle.sql_base.specs.Outcome.{and_then}
-use Rattle.mig_lens.specs.declared.faults.Kind.{Kind}
-use Rattle.mig_lens.specs.declared.faults.Kind.TheVariants as kind
 use Rattle.mig_lens.specs.declared.faults.Refusal.TheVariants.{Limit}
 use Rattle.row_rules.specs.declared.kinds.Change.TheVariants.{Put, Remove}
-use Rattle.row_rules.specs.Accept.{clashes, clashes_on, side_cause, table_there, total_weight, weight_cause, wrong}
+use Rattle.row_rules.specs.Accept.{clashes, clashes_on, side_cause, total_weight, weight_cause}
 use Rattle.row_rules.specs.Causes.{heavy_statement, max_reply, max_total, row_error}
 use Rattle.row_rules.specs.Changes.{after_changes, cause_together, changes, keys_changed, new_keys_cause, refused_together, rows_put}
 use Rattle.row_rules.specs.Rows.{rows_at}
 use Rattle.row_rules.specs.Show.{rows_shown}
-use Rattle.row_rules.specs.Site.{Beside, Site, name_of, number_of, half, other}
+use Rattle.row_rules.specs.Site.{Beside, name_of, number_of}
 use Rattle.machine.specs.declared.events.Asked.{Asked}
 use Rattle.machine.specs.declared.events.Entry.{Entry}
 use Rattle.machine.specs.declared.events.Reading.{Reading}
@@ -21,27 +19,27 @@ use Rattle.machine.specs.Below.{Below}
 use Rattle.machine.specs.Done.{CommandOutcome, Started, answered}
 use Rattle.machine.specs.Lawful.{HasLawfulRows, HasNoClash, IsLawful, IsLawfulRow}
 use Rattle.machine.specs.Laws.{RunsReachLawful, StepsKeepLaws}
-use Rattle.machine.specs.Migrate.{batch, batch_settled, complete, completed, fill_keys, finish, has_heavy, invalid, may_not_complete, may_not_start, not_filled, not_valid, numbers_of, planned, refused_batch, start, start_planned, started, stepped, tidied, too_heavy}
+use Rattle.machine.specs.Migrate.{batch, batch_settled, complete, completed, fill_keys, finish, has_heavy, invalid, may_not_complete, may_not_start, not_filled, not_valid, numbers_of, planned, refused_batch, start, start_planned, started, stepped, too_heavy}
 use Rattle.machine.specs.Sites.{OfPut, TableStands, new_table_by, table_by}
 use Rattle.machine.specs.Standing.{IsState}
-use Rattle.machine.specs.State.{Found, Shared, beginning, filling_site, missing_keys, rows_of, shared, site_of, table_on, with_rows}
+use Rattle.machine.specs.State.{Found, Shared, beginning, filling_site, missing_keys, rows_of, shared, site_of, with_rows}
 use Rattle.machine.specs.Statement.{Begun, Writes, Shows, Sets, begun, changed, error_reply, finished, refused_all, settled, too_many, written}
 use Rattle.machine.specs.Step.{Run, line_outcome}
-use Rattle.machine.specs.Words.{Both, Calm, Cause, Change, Deep, Filled, Job, Kept, Migrates, Mode, New, NotRead, Old, Read, Reply, Select, Side, SqlError, Start, State, Syntax, Table, TooLong, Wide, map_fault}
+use Rattle.machine.specs.Words.{Both, Calm, Cause, Change, Deep, Filled, Job, Kept, Migrates, Mode, New, NotRead, Old, Read, Reply, Select, Side, Start, State, Syntax, Table, TooLong, Wide, map_fault}
 use Rattle.machine.specs.Words.job
 use Rattle.machine.proofs.Accepting.{if_none, map_fault_ok, map_none}
-use Rattle.machine.proofs.FoundSites.{Sides, sides}
+use Rattle.machine.proofs.FoundSites.{sides}
 use Rattle.machine.proofs.LawfulRows.{completed_lawful, emptied_lawful, rows_lawful, started_lawful, with_rows_lawful}
 use Rattle.machine.proofs.LawfulTables.{changed_unique, completed_unique, emptied_unique, started_unique}
 use Rattle.machine.proofs.Lines.{BegunStands, begun_stands}
 use Rattle.machine.proofs.Moving.{each_so}
-use Rattle.machine.proofs.Outcomes.{Events, Holds, holds_guarded, holds_then, holds_without, step_so}
+use Rattle.machine.proofs.Outcomes.{Holds, holds_guarded, holds_then, holds_without, step_so}
 use Rattle.machine.proofs.Pairs.{new_stands}
 use Rattle.machine.proofs.Placing.{changed_each}
 use Rattle.machine.proofs.Replacing.{rows_stand}
 use Rattle.machine.proofs.Running.{beginning_stands, steps_keep_states}
 use Rattle.machine.proofs.SoundChanges.{IsSound, changes_sound}
-use Rattle.machine.proofs.Tidying.{completing_so, emptied, ended, tidied_so}
+use Rattle.machine.proofs.Tidying.{completing_so, ended, tidied_so}
 
 -- ---- changes
 
@@ -105,8 +103,8 @@ module _ (s : State) (stands : IsState s) (lawful : IsLawful s) (found : Found) 
       record {
         rows = with_rows_lawful s number rows lawful.rows (changed_each (IsLawfulRow s number) all older put (rows_lawful s number lawful.rows));
         unique = changed_unique s number all (rows_stand s number stands).0 lawful.unique
-        (subst (λ table. clashes_on table Old rows (keys_changed all) ≡ None) at.old quiet.old_side)
-        (subst (λ table. clashes_on table New rows (keys_changed all) ≡ None) at.new quiet.new_side);
+            (subst (λ table. clashes_on table Old rows (keys_changed all) ≡ None) at.old quiet.old_side)
+            (subst (λ table. clashes_on table New rows (keys_changed all) ≡ None) at.new quiet.new_side);
       }
 
 -- ---- lines

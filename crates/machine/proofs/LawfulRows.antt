@@ -14,7 +14,7 @@ use Rattle.mig_lens.specs.declared.plans.Fate.{Fate}
 use Rattle.mig_lens.specs.declared.plans.Plan.{Plan}
 use Rattle.mig_lens.specs.Layout.{has_mark}
 use Rattle.mig_lens.specs.Plan.{Table, table_numbered}
-use Rattle.row_rules.specs.Accept.{clashes_on, half_cause, is_heavy, keys_of, side_cause, weight_cause}
+use Rattle.row_rules.specs.Accept.{clashes_on, is_heavy, keys_of, side_cause, weight_cause}
 use Rattle.row_rules.specs.Causes.{max_weight}
 use Rattle.row_rules.specs.Outcome.{first_some}
 use Rattle.row_rules.specs.Steps.{begun_half, begun_row, new_half_cause, shows_heavy}

@@ -1,5 +1,5 @@
 -- Tables keep their unique constraints through every step.
-use Rattle.std.proofs.Common.{◌≡◌, ◌∙◌, ℕ, ℤ, List, [], ◌∷◌, Bool, true, false, Option, Some, None, map, filter, is_some, ap, refl, sym, subst, true≢false, option_map, option_and_then, if◌then◌else◌}
+use Rattle.std.proofs.Common.{◌≡◌, ◌∙◌, ℕ, ℤ, List, [], ◌∷◌, true, false, Option, Some, None, map, filter, is_some, ap, refl, sym, subst, true≢false, option_map, option_and_then, if◌then◌else◌}
 use Rattle.std.specs.List.{AllByRecursion as Each, cons_option}
 use Rattle.std.specs.Option.{option_map_or, option_or}
 use Rattle.sql_base.specs.Laws.{either_none}

@@ -33,5 +33,6 @@ pub mod SiteChanges
 pub mod SiteHalves
 pub mod SoundChanges
 pub mod StandingSites
+pub mod StandingTables
 pub mod Starting
 pub mod Tidying

@@ -1,5 +1,5 @@
 -- Statements lead from a state that stands to one.
-use Rattle.std.proofs.Common.{◌≡◌, ℕ, ◌≤◌, List, Bool, true, false, Option, Some, None, Result, Ok, Err, refl, sym, subst, length, nat_lt, arith, option_map, if◌then◌else◌}
+use Rattle.std.proofs.Common.{◌≡◌, ℕ, ◌≤◌, List, false, Some, None, Result, Ok, refl, sym, subst, nat_lt, arith, option_map, if◌then◌else◌}
 use Rattle.std.specs.Option.{ok_or}
 use Rattle.std.proofs.lemmas.Bool.Decides.{nat_tests}
 use Rattle.sql_base.specs.Laws.{and_then_ok, either_none, ok_same}
@@ -9,13 +9,13 @@ use Rattle.row_rules.specs.Settle.{delete_job, insert_job, query_error, update_j
 use Rattle.row_rules.specs.Show.{rows_shown}
 use Rattle.row_rules.specs.Site.{Site, number_of, shape_of}
 use Rattle.machine.specs.declared.events.Reading.{Reading}
-use Rattle.machine.specs.Done.{Done, Outcome, answered}
+use Rattle.machine.specs.Done.{answered}
 use Rattle.machine.specs.Sites.{JobStands, TableStands}
 use Rattle.machine.specs.Standing.{IsState}
 use Rattle.machine.specs.State.{Found, row_count, rows_of, site_of, table_of, with_rows}
-use Rattle.machine.specs.Statement.{Begun, Writes, Shows, Sets, answer, begun, changed, error_reply, finished, long_insert, max_rows, no_table, on_table, refused_all, rows_after, settled, shown, too_many, too_many_rows, writes, written}
+use Rattle.machine.specs.Statement.{Begun, Writes, Shows, Sets, begun, changed, error_reply, finished, long_insert, max_rows, no_table, on_table, refused_all, rows_after, settled, too_many, too_many_rows, writes, written}
 use Rattle.machine.specs.Step.{line_outcome}
-use Rattle.machine.specs.Words.{Cause, Change, Deep, DeleteFrom, Expr, InsertInto, Items, Job, Kept, Query, Read, Reply, Select, Set, SetPath, SqlError, State, Stmt, Syntax, TooLong, UpdateOf, Wide, guarded, map_fault}
+use Rattle.machine.specs.Words.{Cause, Deep, DeleteFrom, InsertInto, Job, Query, Read, Reply, Select, SetPath, SqlError, State, Stmt, Syntax, TooLong, UpdateOf, Wide, guarded, map_fault}
 use Rattle.machine.proofs.Accepting.{guarded_ok, if_none, map_fault_ok, ok_or_ok}
 use Rattle.machine.specs.Below.{Below}
 use Rattle.machine.proofs.Changing.{changed_stands, rows_on_site}

@@ -1,5 +1,5 @@
 -- What holds of every accepted event, and of a state that nothing changed, holds of every step.
-use Rattle.std.proofs.Common.{◌≡◌, ◌∙◌, inl, inr, ℕ, ℤ, List, [], ◌∷◌, Bool, true, false, Option, Some, None, Result, Ok, Err, refl, sym, ap, subst, filter, length, ◌≤◌}
+use Rattle.std.proofs.Common.{◌≡◌, inl, inr, ℕ, ℤ, List, [], ◌∷◌, Bool, Option, Some, None, Result, Ok, Err, refl, sym, subst, filter, length, ◌≤◌}
 use Rattle.sql_base.specs.Outcome.{and_then}
 use Rattle.row_rules.specs.Outcome.{guarded, without}
 use Rattle.machine.specs.declared.events.Asked.{Asked}
@@ -10,12 +10,12 @@ use Rattle.machine.specs.declared.events.Reply.{Reply}
 use Rattle.machine.specs.declared.events.Reply.TheVariants.{Filled, Refused}
 use Rattle.machine.specs.declared.states.State.{State}
 use Rattle.mig_lens.specs.declared.faults.Refusal.{Refusal}
-use Rattle.machine.specs.Done.{CommandOutcome, Done, Outcome, Wrote, answered, as_outcome}
+use Rattle.machine.specs.Done.{CommandOutcome, Done, Outcome, Wrote, as_outcome}
 use Rattle.machine.specs.Migrate.{complete, fill_keys, may_not_fill, start, unfilled_tables}
 use Rattle.machine.specs.Standing.{IsState}
 use Rattle.machine.specs.State.{missing_keys}
 use Rattle.machine.specs.Statement.{no_memory}
-use Rattle.machine.specs.Step.{ComesTo, Comes, FillStep, FillsSome, FindsNoMemory, Makes, Step, line_outcome}
+use Rattle.machine.specs.Step.{ComesTo, FillStep, FillsSome, Step, line_outcome}
 
 -- The state afterwards stands.
 abbrev pub Stands : Reply → State → Type 0

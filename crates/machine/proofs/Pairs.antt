@@ -19,7 +19,7 @@ use Rattle.machine.specs.State.{Found, Shared, Version, lens_between, newer_call
 use Rattle.row_rules.specs.Site.{name_of, number_of, shape_of}
 use Rattle.machine.proofs.Placing.{neither}
 use Rattle.machine.specs.Migrate.{numbers_of}
-use Rattle.machine.specs.Sites.{JoinsShapes, PairStands, TableStands}
+use Rattle.machine.specs.Sites.{PairStands, TableStands}
 use Rattle.machine.specs.Standing.{IsState, ModeStands}
 
 -- ---- tables that both versions have
@@ -208,8 +208,10 @@ number_on s number table h = by_version (newer_schema s.mode) h
 pub new_stands : (s : State) (number : ℕ) (pair : Shared) → IsState s → shared s number ≡ Some pair → (number_of pair.new ≡ number) × TableStands s (record { side = New; table = pair.new })
 new_stands s number pair stands is =
     let p = pair_stands s number pair stands is in
-    let same : number_of pair.new ≡ number = number_on s number pair.new p.new in
-    (same, record {
-      on_side = subst (λ n. table_on s New n ≡ Some pair.new) (sym same) p.new;
-      well_formed = newer_stands s s.mode stands.mode number pair.new p.new;
-    })
+    let same : number_of pair.new ≡ number = number_on s number pair.new p.new in (
+      same,
+      record {
+        on_side = subst (λ n. table_on s New n ≡ Some pair.new) (sym same) p.new;
+        well_formed = newer_stands s s.mode stands.mode number pair.new p.new;
+      },
+    )

@@ -1,5 +1,5 @@
 -- Rows of one table that are put in their places or removed.
-use Rattle.std.proofs.Common.{◌≡◌, ◌∙◌, ℕ, ◌+◌, ◌≤◌, ℤ, List, [], ◌∷◌, Bool, true, false, not, ◌&&◌, ◌||◌, cond, Some, refl, sym, ap, subst, length, map, filter, arith, le_refl, int_cmp, int_eq, Ordering, Less, Equal, Greater}
+use Rattle.std.proofs.Common.{◌≡◌, ◌∙◌, ℤ, List, [], ◌∷◌, Bool, true, false, not, ◌||◌, cond, refl, sym, ap, subst, map, filter, int_cmp, int_eq, Ordering, Less, Equal, Greater}
 use Rattle.std.specs.List.{AllByRecursion as Each, list_all, list_any}
 use Rattle.std.specs.Ordering.{match_ordering, ordering_reverse, is_eq}
 use Rattle.std.proofs.lemmas.Cmp.{int_cmp_total, int_ranked}
@@ -8,7 +8,7 @@ use Rattle.row_rules.specs.declared.kinds.Change.{Change}
 use Rattle.row_rules.specs.declared.kinds.Change.TheVariants.{Put, Remove}
 use Rattle.row_rules.specs.declared.kinds.Kept.{Kept}
 use Rattle.row_rules.specs.Accept.{has_key, keys_of}
-use Rattle.row_rules.specs.Changes.{after_change, after_changes, put_row}
+use Rattle.row_rules.specs.Changes.{after_changes, put_row}
 use Rattle.machine.specs.Sites.{OfPut}
 use Rattle.machine.specs.Standing.{Ascends}
 use Rattle.machine.proofs.Moving.{filter_each}
@@ -74,9 +74,6 @@ put_ascends row (first ∷ rows) h = by_order (put_ascends row rows (ascends_res
     by_order there Equal e = ascends_join row rows (subst (λ key. Above key rows) (sym (cmp_same row.key first.key e)) (ascends_above first rows h)) (ascends_rest first rows h)
     by_order there Greater e = ascends_join first (put_row row rows) (put_above first.key row rows (cmp_flips row.key first.key e) (ascends_above first rows h)) there
 
-pub put_rows_ascend : (new rows : List Kept) → Ascends rows → Ascends (put_rows new rows)
-put_rows_ascend [] rows h = h
-put_rows_ascend (row ∷ new) rows h = put_rows_ascend new (put_row row rows) (put_ascends row rows h)
 pub put_each : (P : Kept → Type 0) (row : Kept) (rows : List Kept) → P row → Each P rows → Each P (put_row row rows)
 put_each P row [] r h = (r, tt)
 put_each P row (first ∷ rows) r h = by_order (put_each P row rows r h.1) (int_cmp row.key first.key)
@@ -85,10 +82,6 @@ put_each P row (first ∷ rows) r h = by_order (put_each P row rows r h.1) (int_
     by_order there Less = (r, h)
     by_order there Equal = (r, h.1)
     by_order there Greater = (h.0, there)
-
-pub put_rows_each : (P : Kept → Type 0) (new rows : List Kept) → Each P new → Each P rows → Each P (put_rows new rows)
-put_rows_each P [] rows n h = h
-put_rows_each P (row ∷ new) rows n h = put_rows_each P new (put_row row rows) n.1 (put_each P row rows n.0 h)
 
 -- ---- rows that are removed
 
@@ -123,37 +116,9 @@ changed_each P (Remove key ∷ all) rows c h = changed_each P all (filter (λ ro
 
 -- ---- lengths and keys
 
-pub put_length : (row : Kept) (rows : List Kept) → length (put_row row rows) ≤ length rows + 1
-put_length row [] = le_refl 1
-put_length row (first ∷ rows) = by_order (put_length row rows) (int_cmp row.key first.key)
-  where
-    by_order : length (put_row row rows) ≤ length rows + 1 → (o : Ordering) → length (match_ordering o (row ∷ first ∷ rows) (row ∷ rows) (first ∷ put_row row rows)) ≤ length (first ∷ rows) + 1
-    by_order there Less = omega arith
-    by_order there Equal = omega arith
-    by_order there Greater = omega arith
-
-pub put_rows_length : (new rows : List Kept) → length (put_rows new rows) ≤ length rows + length new
-put_rows_length [] rows = omega arith
-put_rows_length (row ∷ new) rows =
-    let there = put_rows_length new (put_row row rows) in
-    let here = put_length row rows in
-    omega arith
-
 pub neither : (a b : Bool) → (a || b) ≡ false → (a ≡ false) × (b ≡ false)
 neither true b h = cc
 neither false b h = (refl, h)
-
--- a new key makes them longer by one
-pub put_fresh_length : (row : Kept) (rows : List Kept) → has_key row.key rows ≡ false → length (put_row row rows) ≡ length rows + 1
-put_fresh_length row [] h = refl
-put_fresh_length row (first ∷ rows) h =
-    let parts = neither (int_eq row.key first.key) (has_key row.key rows) h in
-    by_order parts.0 (put_fresh_length row rows parts.1) (int_cmp row.key first.key) refl
-  where
-    by_order : int_eq row.key first.key ≡ false → length (put_row row rows) ≡ length rows + 1 → (o : Ordering) → int_cmp row.key first.key ≡ o → length (match_ordering o (row ∷ first ∷ rows) (row ∷ rows) (first ∷ put_row row rows)) ≡ length (first ∷ rows) + 1
-    by_order differ there Less e = omega arith
-    by_order differ there Equal e = let equal : int_eq row.key first.key ≡ true = ap is_eq e in cc
-    by_order differ there Greater e = omega arith
 
 -- a key less than all of these is none of them
 pub above_fresh : (key : ℤ) (rows : List Kept) → Above key rows → Ascends rows → has_key key rows ≡ false
@@ -182,6 +147,7 @@ put_known_keys row (first ∷ rows) a h = by_order (put_known_keys row rows (asc
 pub has_key_by_keys : (key : ℤ) (rows : List Kept) → has_key key rows ≡ list_any (int_eq key) (keys_of rows)
 has_key_by_keys key [] = refl
 has_key_by_keys key (row ∷ rows) = ap (λ b. int_eq key row.key || b) (has_key_by_keys key rows)
+
 known_still : (new rows others : List Kept) → keys_of others ≡ keys_of rows → list_all (λ row. has_key row.key rows) new ≡ true → list_all (λ row. has_key row.key others) new ≡ true
 known_still [] rows others e h = refl
 known_still (row ∷ new) rows others e h =

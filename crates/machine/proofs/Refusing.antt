@@ -1,5 +1,5 @@
 -- Refused events change nothing.
-use Rattle.std.proofs.Common.{◌≡◌, ℕ, ℤ, List, [], ◌∷◌, Bool, true, false, ◌==◌, Option, Some, None, Result, Ok, Err, refl, filter, option_map}
+use Rattle.std.proofs.Common.{◌≡◌, ℕ, ℤ, List, true, false, ◌==◌, Option, Some, None, Ok, refl, filter, option_map}
 use Rattle.std.specs.Option.{option_map_or}
 use Rattle.sql_base.specs.Outcome.{and_then}
 use Rattle.row_rules.specs.Causes.{max_reply, row_error}
@@ -11,13 +11,13 @@ use Rattle.machine.specs.declared.events.Asked.{Asked}
 use Rattle.machine.specs.declared.events.Reading.{Reading}
 use Rattle.machine.specs.Done.{CommandOutcome, Started, answered}
 use Rattle.machine.specs.Laws.{RefusalsChangeNothing, leaves_all}
-use Rattle.machine.specs.Migrate.{batch, batch_settled, complete, completed, fill_keys, finish, may_not_complete, may_not_start, planned, refused_batch, start, start_planned, started, stepped, tidied, too_heavy}
+use Rattle.machine.specs.Migrate.{batch, batch_settled, complete, completed, fill_keys, finish, may_not_complete, may_not_start, planned, refused_batch, start, start_planned, started, stepped, too_heavy}
 use Rattle.machine.specs.State.{Shared, filling_site, missing_keys, rows_of, shared}
 use Rattle.machine.specs.Statement.{Begun, Writes, Shows, Sets, begun, changed, error_reply, finished, refused_all, settled, written, written_reply}
 use Rattle.machine.specs.Step.{line_outcome}
 use Rattle.machine.specs.Words.{Both, Calm, Cause, Change, Deep, Filled, Job, Kept, Migrates, Mode, NotRead, Read, Reply, Select, Start, State, Syntax, TooLong, Wide, map_fault}
 use Rattle.machine.specs.Words.job
-use Rattle.machine.proofs.Outcomes.{Events, Holds, holds_guarded, holds_then, holds_without, step_so}
+use Rattle.machine.proofs.Outcomes.{Holds, holds_guarded, holds_then, holds_without, step_so}
 use Rattle.machine.proofs.Tidying.{completing_so, tidied_so}
 
 -- The event changed nothing, where its reply says so.

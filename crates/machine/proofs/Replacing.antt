@@ -14,7 +14,7 @@ use Rattle.machine.specs.declared.states.State.{State}
 use Rattle.machine.specs.State.{row_count, rows_of, shared, table_on, with_rows}
 use Rattle.machine.specs.Statement.{max_rows}
 use Rattle.machine.specs.Migrate.{numbers_of}
-use Rattle.machine.specs.Standing.{Ascends, HalfStands, IsState, ModeStands, NewStands, NoneLost, NothingLost, NumbersAscend, RowStands, RowsStand, TablesStand, VersionStands, may_lose, may_miss}
+use Rattle.machine.specs.Standing.{Ascends, HalfStands, IsState, ModeStands, NewStands, NoneLost, NumbersAscend, RowStands, RowsStand, TablesStand, VersionStands, may_lose, may_miss}
 
 -- ---- rows of a state
 

@@ -1,5 +1,5 @@
 -- Every step from a state that stands leads to one, and so every run does that begins as the program does.
-use Rattle.std.proofs.Common.{◌≡◌, inl, inr, ℕ, ◌+◌, List, [], ◌∷◌, Bool, true, false, ◌==◌, Option, Some, None, Ok, Err, refl, sym, subst, if◌then◌else◌, filter, arith, codes, option_map}
+use Rattle.std.proofs.Common.{◌≡◌, ℕ, ◌+◌, List, [], ◌∷◌, Bool, true, false, ◌==◌, Some, None, refl, sym, subst, if◌then◌else◌, filter, arith, codes, option_map}
 use Rattle.sql_base.specs.declared.shapes.Shape.{Shape}
 use Rattle.sql_eval.specs.Shape.{WellFormed}
 use Rattle.mig_lens.specs.Laws.{IsSchema}
@@ -13,7 +13,6 @@ use Rattle.machine.proofs.Starting.{started_stands}
 use Rattle.machine.specs.Migrate.{numbers_of}
 use Rattle.machine.specs.Step.{Run}
 use Rattle.machine.specs.declared.events.Entry.{Entry}
-use Rattle.machine.specs.declared.events.Reply.{Reply}
 use Rattle.machine.specs.declared.states.State.{State}
 use Rattle.machine.specs.State.{beginning, missing_keys, users}
 use Rattle.machine.specs.Laws.{RunsReachStates, StepsKeepStates}

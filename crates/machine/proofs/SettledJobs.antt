@@ -1,5 +1,5 @@
 -- The jobs of statements whose names and types are settled.
-use Rattle.std.proofs.Common.{◌≡◌, ◌∙◌, ℕ, zero, suc, ◌+◌, List, [], ◌∷◌, Bool, true, false, ◌&&◌, not, ◌==◌, Option, Some, None, Result, Ok, Err, ap, refl, sym, subst, arith, if◌then◌else◌, map, length, zip, unwrap_or, slice_get, slice_index_or}
+use Rattle.std.proofs.Common.{◌≡◌, ℕ, zero, suc, ◌+◌, List, [], ◌∷◌, Bool, true, false, not, ◌==◌, Option, Some, None, Result, Ok, Err, refl, subst, if◌then◌else◌, map, length, zip, slice_get, slice_index_or}
 use Rattle.std.specs.List.{AllByRecursion as Each, enumerate_from, list_all}
 use Rattle.std.specs.Map.{lookup}
 use Rattle.sql_base.specs.Fit.{fits_columns, has_type, is_integer, row_fits}
@@ -17,8 +17,8 @@ use Rattle.sql_eval.specs.Typing.{same}
 use Rattle.sql_eval.specs.Value.{is_null}
 use Rattle.sql_base.specs.declared.codes.Code.TheVariants.{C0A000, C23502}
 use Rattle.row_rules.specs.Causes.{named_error, no_value, not_null_name, syntax}
-use Rattle.row_rules.specs.Outcome.{first_some, guarded, map_fault, without}
-use Rattle.row_rules.specs.Settle.{condition_error, delete_job, insert_job, named_once, no_columns, null_key, place_named, places_listed, row_completed, row_evaluated, row_of_values_error, rows_inserted, rows_valued, set_settled, sets_settled, update_job, value_error, value_or_default}
+use Rattle.row_rules.specs.Outcome.{first_some, guarded, without}
+use Rattle.row_rules.specs.Settle.{condition_error, delete_job, insert_job, named_once, no_columns, null_key, places_listed, row_completed, row_evaluated, row_of_values_error, rows_inserted, rows_valued, set_settled, sets_settled, update_job, value_error, value_or_default}
 use Rattle.row_rules.specs.Site.{shape_of}
 use Rattle.machine.specs.Sites.{JobStands, SetStands}
 use Rattle.machine.specs.Words.{Column, Expr, Job, Shape, SqlError, Table}

@@ -1,23 +1,21 @@
 -- The changes of a job to rows of a site that stands: each row that is put stands.
-use Rattle.std.proofs.Common.{◌≡◌, ◌∙◌, zero-add, ℕ, ◌+◌, ℤ, List, [], ◌∷◌, Bool, true, false, ◌==◌, Option, Some, None, Result, Ok, Err, ap, refl, sym, subst, arith, if◌then◌else◌, map, unwrap_or, slice_get, slice_index_or}
-use Rattle.std.specs.List.{AllByRecursion as Each, cons_option, enumerate_from, filter_map}
+use Rattle.std.proofs.Common.{◌≡◌, ◌∙◌, zero-add, ℕ, ◌+◌, ℤ, List, [], true, false, ◌==◌, Option, Some, None, Ok, ap, subst, map, unwrap_or, slice_get, slice_index_or}
+use Rattle.std.specs.List.{AllByRecursion as Each}
 use Rattle.std.specs.Map.{lookup}
 use Rattle.sql_base.specs.Fit.{fits_columns, is_integer, row_fits}
 use Rattle.sql_base.specs.Laws.{all_true, and_then_ok, both, ok_same}
-use Rattle.sql_base.specs.Outcome.{and_then, every}
-use Rattle.sql_base.specs.declared.faults.EvalFault.{EvalFault}
+use Rattle.sql_base.specs.Outcome.{every}
 use Rattle.sql_base.specs.declared.values.Value.{Value}
 use Rattle.sql_base.specs.declared.values.Value.TheVariants.{Null}
 use Rattle.sql_eval.specs.Eval.{eval}
 use Rattle.sql_eval.specs.Laws.{TypedIsSound}
-use Rattle.row_rules.specs.declared.kinds.Change.TheVariants.{Put, Remove}
 use Rattle.row_rules.specs.Causes.{value_cause}
-use Rattle.row_rules.specs.Changes.{altered, altered_halves, altered_row, assigned, changes, filled_row, matching, new_row, passes, put_all, remade, row_passed, with_given}
+use Rattle.row_rules.specs.Changes.{altered, altered_halves, altered_row, assigned, changes, new_row, remade, with_given}
 use Rattle.row_rules.specs.Outcome.{map_fault}
-use Rattle.row_rules.specs.Site.{Site, half, key_of, other, shape_of, shown, touched}
+use Rattle.row_rules.specs.Site.{Site, half, key_of, other, shape_of, touched}
 use Rattle.machine.specs.Sites.{ChangeStands, JobStands, SetStands, SiteRow, SiteStands}
 use Rattle.machine.specs.Standing.{HalfStands}
-use Rattle.machine.specs.Words.{Cause, Change, Expr, Halves, Job, Kept, Shape, Table}
+use Rattle.machine.specs.Words.{Change, Expr, Halves, Job, Kept, Shape}
 use Rattle.machine.specs.Words.job
 use Rattle.machine.proofs.Accepting.{every_made, map_fault_ok}
 use Rattle.machine.specs.Below.{Below}

@@ -1,20 +1,19 @@
 -- Rows of a site that stands, as a write makes them.
-use Rattle.std.proofs.Common.{◌≡◌, ◌∙◌, ℕ, zero, suc, ℤ, List, [], ◌∷◌, Bool, true, false, Option, Some, None, Result, Ok, Err, ap, refl, sym, subst, if◌then◌else◌, is_none, is_some, unwrap_or}
+use Rattle.std.proofs.Common.{◌≡◌, ◌∙◌, ℕ, zero, suc, ℤ, List, [], ◌∷◌, Bool, true, false, Option, Some, None, Ok, ap, refl, sym, subst, is_some}
 use Rattle.std.specs.Prelude.{slice_get, slice_index_or}
-use Rattle.std.specs.Option.{option_map, option_map_or}
+use Rattle.std.specs.Option.{option_map}
 use Rattle.sql_base.specs.Fit.{row_fits}
 use Rattle.sql_base.specs.Laws.{and_then_ok, ok_same}
-use Rattle.sql_base.specs.Outcome.{and_then}
 use Rattle.sql_base.specs.declared.shapes.Shape.{Shape}
 use Rattle.sql_base.specs.declared.values.Value.{Value}
 use Rattle.sql_base.specs.declared.values.Value.TheVariants.{Null}
-use Rattle.mig_lens.specs.Lens.{backward, forward}
+use Rattle.mig_lens.specs.Lens.{forward}
 use Rattle.mig_lens.specs.Laws.{FitsBefore}
 use Rattle.row_rules.specs.Accept.{sound, wrong}
 use Rattle.row_rules.specs.Causes.{value_cause}
 use Rattle.row_rules.specs.Changes.{filled_row, new_row, remade}
 use Rattle.row_rules.specs.Outcome.{map_fault}
-use Rattle.row_rules.specs.Site.{Beside, Site, filled, filled_beside, half, half_beside, halves_on, integer, key_of, other, other_half, shape_of, touched}
+use Rattle.row_rules.specs.Site.{Beside, Site, filled, half, half_beside, halves_on, integer, key_of, other, other_half, shape_of, touched}
 use Rattle.machine.specs.Sites.{BesideStands, SiteRow, SiteStands, may_miss_beside}
 use Rattle.machine.specs.Standing.{HalfStands, NewStands}
 use Rattle.machine.specs.Words.{Halves, Kept, New, Old, Side, Table}

@@ -1,17 +1,15 @@
 -- Each row that a job puts was looked at, and nothing is wrong with it.
-use Rattle.std.proofs.Common.{◌≡◌, ℕ, ℤ, List, [], ◌∷◌, Option, Some, None, Result, Ok, Err, map, unwrap_or, subst}
+use Rattle.std.proofs.Common.{◌≡◌, ℕ, ℤ, List, [], ◌∷◌, Option, None, Ok, unwrap_or, subst}
 use Rattle.std.specs.List.{AllByRecursion as Each}
-use Rattle.sql_base.specs.Laws.{and_then_ok, ok_same}
-use Rattle.sql_base.specs.Outcome.{and_then, every}
+use Rattle.sql_base.specs.Laws.{and_then_ok}
 use Rattle.sql_base.specs.declared.values.Value.{Value}
-use Rattle.row_rules.specs.declared.kinds.Change.TheVariants.{Put, Remove}
 use Rattle.row_rules.specs.Accept.{sound, wrong}
 use Rattle.row_rules.specs.Causes.{value_cause}
-use Rattle.row_rules.specs.Changes.{altered, altered_halves, altered_row, changes, filled_row, matching, new_row, put_all, remade}
+use Rattle.row_rules.specs.Changes.{altered, altered_halves, altered_row, changes, new_row, remade}
 use Rattle.row_rules.specs.Outcome.{map_fault}
 use Rattle.row_rules.specs.Site.{Site, half, halves_on, key_of, other, other_half, shape_of, touched}
 use Rattle.machine.specs.Sites.{OfPut}
-use Rattle.machine.specs.Words.{Cause, Change, Expr, Halves, Job, Kept}
+use Rattle.machine.specs.Words.{Change, Expr, Job, Kept}
 use Rattle.machine.specs.Words.job
 use Rattle.machine.proofs.Accepting.{without_ok}
 use Rattle.machine.proofs.Filling.{fills}

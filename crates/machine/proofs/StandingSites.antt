@@ -1,6 +1,4 @@
 -- Tables, sites and rows of a state that stands, as the layers above meet them.
-use Rattle.std.proofs.Common.{◌≡◌, ℕ, List, [], ◌∷◌}
-use Rattle.row_rules.specs.Site.{number_of}
 use Rattle.machine.specs.Below.{Below}
 use Rattle.machine.specs.Laws.{ChangedRowsAscend, ChangesKeep, FillingStands, FoundStands, RowsOnSites, RowsStandBy, SharedStands, ShowsStand, WritesStand}
 use Rattle.machine.specs.State.{site_of}

@@ -26,16 +26,15 @@ use Rattle.mig_lens.specs.Laws.{Joins, adds_column}
 use Rattle.mig_lens.specs.Layout.{has_mark, is_make}
 use Rattle.mig_lens.specs.Lens.{IsWellFormed, fits, forward, outcomes, unfilled, unfilled_value}
 use Rattle.mig_lens.specs.Plan.{Table, plan_of, table_numbered}
-use Rattle.sql_base.specs.Laws.{all_true, and_then_ok, both, either_none}
+use Rattle.sql_base.specs.Laws.{all_true, both, either_none}
 use Rattle.machine.specs.declared.events.Asked.{Asked}
 use Rattle.machine.specs.declared.events.Asked.TheVariants.{Read, Refused as NotRead}
-use Rattle.machine.specs.declared.events.Reply.{Reply}
 use Rattle.machine.specs.declared.events.Reply.TheVariants.{Start}
 use Rattle.row_rules.specs.declared.kinds.Kept.{Kept}
 use Rattle.machine.specs.declared.states.State.{State}
 use Rattle.machine.specs.State.{lens_among, row_count, table_on}
 use Rattle.row_rules.specs.Site.{number_of, shape_of}
-use Rattle.machine.specs.Statement.{max_rows, begun}
+use Rattle.machine.specs.Statement.{max_rows}
 use Rattle.machine.specs.Migrate.{active, begun_table, may_not_start, not_yet, numbers_of, planned, start, start_planned, started, steps_left, taken, too_heavy, unplanned, unrun}
 use Rattle.machine.specs.Done.{Started}
 use Rattle.row_rules.specs.Steps.{begun_half, begun_row}

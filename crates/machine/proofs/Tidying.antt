@@ -1,5 +1,5 @@
 -- A step of tidying, by whether it is the first that is left.
-use Rattle.std.proofs.Common.{◌≡◌, ℕ, Bool, true, false, [], Ok, Err, map, refl, if◌then◌else◌}
+use Rattle.std.proofs.Common.{◌≡◌, Bool, true, false, [], Ok, Err, map, refl, if◌then◌else◌}
 use Rattle.mig_lens.specs.declared.faults.Kind.{Kind}
 use Rattle.mig_lens.specs.declared.faults.Kind.TheVariants as kind
 use Rattle.mig_lens.specs.declared.faults.Refusal.TheVariants.{Unfinished}

@@ -1,6 +1,7 @@
 -- What holds of the machine's steps and runs.
-use Rattle.std.specs.Prelude.{◌≡◌, ◌<◌, ◌≤◌, ◌==◌, ℕ, Bool, true, false, List, None, Ok, is_none, sum_by, if◌then◌else◌, Option, Some}
-use Rattle.std.specs.List.{count_by, AllByRecursion}
+use Rattle.machine.specs.Migrate.{may_not_start, not_filled, numbers_of, planned, started}
+use Rattle.std.specs.Prelude.{◌≡◌, ◌<◌, ◌≤◌, ◌==◌, ℕ, Bool, true, false, List, None, Ok, is_none, sum_by, if◌then◌else◌, Option, Some, is_some}
+use Rattle.std.specs.List.{count_by, AllByRecursion, filter}
 use Rattle.sql_base.specs.declared.shapes.Shape.{Shape}
 use Rattle.sql_base.specs.declared.values.Value.{Value}
 use Rattle.mig_lens.specs.declared.columns.Lens.{Lens}
@@ -19,7 +20,7 @@ use Rattle.machine.specs.declared.states.State.{State}
 use Rattle.mig_lens.specs.Layout.{has_mark}
 use Rattle.mig_lens.specs.Lens.{forward, unfilled}
 use Rattle.row_rules.specs.Site.{shown, Beside, Site, number_of, shape_of}
-use Rattle.machine.specs.State.{Found, beginning, site_of, Shared, rows_of, shared, table_of}
+use Rattle.machine.specs.State.{Found, beginning, site_of, Shared, rows_of, shared, table_of, lens_among}
 use Rattle.machine.specs.Lawful.{IsLawful}
 use Rattle.machine.specs.Follows.{goes_on_completing, goes_on_filling}
 use Rattle.machine.specs.Standing.{IsState, Ascends, RowStands, RowsStand}
@@ -27,7 +28,7 @@ use Rattle.machine.specs.Statement.{max_rows, Shows, Writes, begun}
 use Rattle.machine.specs.Step.{IsPlainStep, LaneRun, LaneStep, Run, Step}
 use Rattle.row_rules.specs.Changes.{after_changes, changes}
 use Rattle.machine.specs.Sites.{ChangeAgrees, ChangeStands, HalvesAgree, JobStands, PairStands, SiteRow, SiteStands, TableStands}
-use Rattle.machine.specs.Words.{Change, Expr, Items, Job, Stmt}
+use Rattle.machine.specs.Words.{Change, Expr, Items, Job, Stmt, Both, Fate, Migration, Plan, Schema, table_numbered}
 
 -- A step leads from such a state to such a state.
 abbrev pub StepsKeepStates : Type 0
@@ -163,3 +164,31 @@ abbrev pub ChangesAgree : Type 0
 ChangesAgree =
     (site : Site) (beside : Beside) (what : Job) (older : List Kept) (all : List Change) → SiteStands site → site.there ≡ Some beside → AllByRecursion (λ row. HalvesAgree beside.lens row.halves) older →
     changes site what older ≡ Ok all → AllByRecursion (ChangeAgrees beside.lens) all
+
+-- ---- tables of a state that stands, as commands go through them
+
+-- A table's rows are those of its number.
+abbrev pub TablesHaveTheirRows : Type 0
+TablesHaveTheirRows = (s : State) → IsState s → AllByRecursion (λ table. rows_of s table.0 ≡ table.1) s.tables
+
+-- Both versions have it, with the lens that the plan gave it.
+abbrev pub IsShared : State → List (ℕ × Fate) → ℕ × List Kept → Type 0
+IsShared s fates table = (pair : Shared) × (shared s table.0 ≡ Some pair) × (lens_among fates table.0 ≡ Some pair.lens)
+
+-- While a migration is active both versions have each table.
+abbrev pub TablesAreShared : Type 0
+TablesAreShared = (s : State) (name : List ℕ) (schema : Schema) (fates : List (ℕ × Fate)) → IsState s → s.mode ≡ Both name schema fates → AllByRecursion (IsShared s fates) s.tables
+
+-- So the new version alone has them all.
+abbrev pub TablesStay : Type 0
+TablesStay = (s : State) (name : List ℕ) (schema : Schema) (fates : List (ℕ × Fate)) → IsState s → s.mode ≡ Both name schema fates → filter (λ table. is_some (table_numbered schema table.0)) s.tables ≡ s.tables
+
+-- Where none is still to be filled each row has its new half.
+abbrev pub FilledRowsHaveHalves : Type 0
+FilledRowsHaveHalves =
+    (s : State) (name : List ℕ) (schema : Schema) (fates : List (ℕ × Fate)) → IsState s → s.mode ≡ Both name schema fates → not_filled s (numbers_of s) ≡ None →
+    AllByRecursion (λ table. AllByRecursion (λ row. is_some row.halves.new ≡ true) table.1) s.tables
+
+-- What a migration begins with stands.
+abbrev pub StartsStand : Type 0
+StartsStand = (s : State) (m : Migration) (plan : Plan) → IsState s → may_not_start s m ≡ None → planned s m ≡ Ok plan → IsState (started s m.name plan)

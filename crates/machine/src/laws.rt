@@ -1,10 +1,10 @@
 //! Laws of the machine, over its definitions alone. Each is the contract of a function that does nothing.
 ghost use Rattle.machine.specs.Below.{Below};
-ghost use Rattle.machine.specs.Laws.{StepsKeepStates, RunsReachStates, RefusalsChangeNothing, BegunHalvesAreMade, OldShowsOldHalves, PlainStepsAreSteps, LaneStepsAreSteps, LaneRunsAreRuns, StepsKeepLaws, RunsReachLawful, OnlyCommandsAreRefused, BatchesLeaveFewer, UnfilledRowsAreFew, StepsLeaveFewer, StepsAreFew, FoundStands, WritesStand, ShowsStand, SharedStands, FillingStands, RowsStandBy, RowsOnSites, ChangesKeep, ChangedRowsAscend, ChangesAgree};
+ghost use Rattle.machine.specs.Laws.{StepsKeepStates, RunsReachStates, RefusalsChangeNothing, BegunHalvesAreMade, OldShowsOldHalves, PlainStepsAreSteps, LaneStepsAreSteps, LaneRunsAreRuns, StepsKeepLaws, RunsReachLawful, OnlyCommandsAreRefused, BatchesLeaveFewer, UnfilledRowsAreFew, StepsLeaveFewer, StepsAreFew, FoundStands, WritesStand, ShowsStand, SharedStands, FillingStands, RowsStandBy, RowsOnSites, ChangesKeep, ChangedRowsAscend, ChangesAgree, TablesHaveTheirRows, TablesAreShared, TablesStay, FilledRowsHaveHalves, StartsStand};
 
 use mig_lens::laws::{
-    added_columns_keep_tables, carried_columns_keep_their_values, made_halves_fit, planned_lenses_join,
-    planned_schemas_are_well_formed,
+    added_columns_keep_tables, carried_columns_keep_their_values, made_halves_fit,
+    planned_lenses_join, planned_schemas_are_well_formed,
 };
 use sql_eval::laws::typed_values_are_of_their_types;
 
@@ -108,6 +108,19 @@ pub fn sites_stand()
 /// rows that they are made of.
 pub fn carried_columns_agree()
     ensures { ChangesAgree }
+{
+    laws_below();
+}
+
+/// In a state that stands each table has the rows of its number; while a migration is active both versions have each table,
+/// so all of them stay when it is completed, and where no row is still to be filled each has its new half. What a
+/// migration begins with stands.
+pub fn tables_stand()
+    ensures rows { TablesHaveTheirRows }
+    ensures shared { TablesAreShared }
+    ensures stay { TablesStay }
+    ensures filled { FilledRowsHaveHalves }
+    ensures starts { StartsStand }
 {
     laws_below();
 }

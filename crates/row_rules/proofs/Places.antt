@@ -70,3 +70,10 @@ one_more_missing rows n at so_far next row within room is missing at_row before 
     let one : take (n - length so_far) (row ∷ rest) ≡ row ∷ take (n - length next) rest = one_taken row rest (n - length so_far) (n - length next) (omega arith) in
     let whole : (so_far ++ row ∷ []) ++ take (n - length next) rest ≡ so_far ++ row ∷ take (n - length next) rest = append_assoc so_far (row ∷ []) (take (n - length next) rest) in
     (omega arith, cc)
+
+-- The rows from a place on, where the row at that place is known.
+pub here : (rows : List Kept) (at : ℕ) (row : Kept) → at < length rows → slice_get rows at ≡ Some row → drop at rows ≡ row ∷ drop (at + 1) rows
+here rows at row within is =
+    let first = at_place rows at within in
+    let same : first.0 ≡ row = some_same first.0 row cc in
+    rw (← same) first.1

@@ -1,7 +1,7 @@
 -- Which written rows are accepted.
 --
 -- That a row with NULL in a NOT NULL column, with a check that is false, with a key that another row has, or with the same values, none of them NULL, as another row in the columns of a unique constraint isn't accepted: PostgreSQL manual, 5.4 Constraints. That it has to be accepted by both versions, and the order of these causes, are our own.
-use Rattle.std.specs.Prelude.{ℕ, ◌+◌, ℤ, List, [], ◌∷◌, Bool, false, ◌||◌, Option, Some, None, Result, is_some, length, map, nat_lt, sum_by, if◌then◌else◌}
+use Rattle.std.specs.Prelude.{ℕ, ◌+◌, ℤ, List, Bool, false, ◌||◌, Option, Some, None, Result, is_some, length, map, nat_lt, sum_by, if◌then◌else◌}
 use Rattle.std.specs.List.{filter, filter_map, list_any}
 use Rattle.std.specs.Option.{option_and_then, option_map, option_map_or, option_or}
 use Rattle.std.specs.Ordering.{int_eq}

@@ -1,6 +1,6 @@
 -- What a statement or a batch does to the rows of its table, row by row, and what is looked at when all rows are made.
-use Rattle.std.specs.Prelude.{ℕ, ℤ, List, [], ◌∷◌, ◌==◌, Bool, true, false, Option, Some, None, Result, Ok, Err, map, nat_lt, not, unwrap_or, if◌then◌else◌}
-use Rattle.std.specs.List.{enumerate_from, filter, filter_map, zip}
+use Rattle.std.specs.Prelude.{ℕ, ℤ, List, [], ◌∷◌, ◌==◌, Bool, true, Option, Some, None, Result, Ok, map, nat_lt, not, unwrap_or, if◌then◌else◌}
+use Rattle.std.specs.List.{enumerate_from, filter, filter_map}
 use Rattle.std.specs.Map.{lookup}
 use Rattle.std.specs.Option.{option_map, option_or}
 use Rattle.std.specs.Ordering.{int_cmp, int_eq, match_ordering}

@@ -1,10 +1,10 @@
 -- The names and types of a statement, and the values of an INSERT: what it does to its rows, or the first fault in written order.
 --
 -- The orders of looking are our own. That a column of an INSERT that isn't listed takes its default: PostgreSQL manual, INSERT.
-use Rattle.std.specs.Prelude.{ℕ, List, [], ◌∷◌, ◌==◌, Bool, Option, Some, None, Result, Ok, Err, length, map, slice_get, slice_index_or, take, unwrap_or, if◌then◌else◌}
-use Rattle.std.specs.List.{enumerate_from, filter_map, list_any, position, zip}
+use Rattle.std.specs.Prelude.{ℕ, List, [], ◌==◌, Option, Some, None, Result, Ok, Err, length, map, slice_get, slice_index_or, take, unwrap_or, if◌then◌else◌}
+use Rattle.std.specs.List.{enumerate_from, list_any, position, zip}
 use Rattle.std.specs.Map.{lookup}
-use Rattle.std.specs.Option.{option_map, option_or, ok_or}
+use Rattle.std.specs.Option.{option_or, ok_or}
 use Rattle.std.specs.Str.{bytes_eq}
 use Rattle.sql_eval.specs.Typing.{fits as type_fits}
 use Rattle.sql_eval.specs.Value.{is_null}

@@ -1,5 +1,5 @@
 -- The rows of a SELECT.
-use Rattle.std.specs.Prelude.{ℕ, ◌-◌, List, [], ◌∷◌, ◌==◌, Bool, true, false, Option, Some, None, Result, Ok, Err, map, if◌then◌else◌}
+use Rattle.std.specs.Prelude.{ℕ, ◌-◌, List, [], ◌∷◌, ◌==◌, Option, Some, None, Result, Ok, Err, map, if◌then◌else◌}
 use Rattle.row_rules.specs.Causes.{long_reply, row_error, value_cause}
 use Rattle.row_rules.specs.Changes.{passes}
 use Rattle.row_rules.specs.Outcome.{map_fault}

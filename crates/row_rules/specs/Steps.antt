@@ -1,5 +1,5 @@
 -- What a migration's start and its completion look at in the rows of one table, and what they leave of each row.
-use Rattle.std.specs.Prelude.{ℕ, List, [], Bool, false, Option, Some, None, nat_lt, unwrap_or, if◌then◌else◌}
+use Rattle.std.specs.Prelude.{List, Bool, false, Option, Some, None, nat_lt, if◌then◌else◌}
 use Rattle.std.specs.List.{list_any}
 use Rattle.std.specs.Option.{option_and_then, option_map, option_map_or, option_or}
 use Rattle.row_rules.specs.Accept.{clashes_on, half_cause, keys_of}

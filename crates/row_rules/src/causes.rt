@@ -1,6 +1,7 @@
 //! Why rows and statements aren't accepted.
 ghost use Rattle.std.specs.Prelude.{◌≡◌, IfOk, Some};
 ghost use Rattle.sql_base.specs.declared.faults.RowFault.TheVariants as RowFault;
+ghost use Rattle.sql_base.specs.declared.codes.Code.TheVariants as Code;
 ghost use Rattle.row_rules.specs.Causes as spec;
 
 use crate::kinds::{Cause, SqlError, Table};
@@ -185,4 +186,26 @@ pub fn no_value(alloc: Global, fault: EvalFault) -> Result<SqlError, NoMemory>
         name: fault_name(alloc, fault)?,
         key: None,
     })
+}
+
+/// More rows match than one reply may have.
+pub fn long_reply(alloc: Global) -> Result<SqlError, NoMemory>
+    ensures { IfOk result (λ error. error ≡ spec.long_reply) }
+{
+    named_error(alloc, Code::C54000, b"reply")
+}
+
+/// The rows that a statement leaves written are too heavy together.
+pub fn heavy_statement(alloc: Global) -> Result<SqlError, NoMemory>
+    ensures { IfOk result (λ error. error ≡ spec.heavy_statement) }
+{
+    named_error(alloc, Code::C54000, b"weight")
+}
+
+/// The key of a new row is NULL.
+pub fn null_key_error(alloc: Global, table: &Table) -> Result<SqlError, NoMemory>
+    ensures { IfOk result (λ error. error ≡ spec.named_error Code.C23502 (spec.not_null_name table.now table.now.2.key)) }
+{
+    let name = not_null_name(alloc, table, table.2.key as usize)?;
+    named_error(alloc, Code::C23502, name.as_slice())
 }

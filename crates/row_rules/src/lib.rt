@@ -9,9 +9,13 @@
 //! (`refused_together`).
 #![tactic(auto)]
 
+mod acceptance;
 pub mod causes;
 mod changing;
+mod halves;
+mod inserting;
 mod kinds;
+mod outcomes;
 mod rows;
 mod settling;
 mod showing;
@@ -19,11 +23,13 @@ mod sites;
 mod steps;
 mod stops;
 mod together;
+mod writing;
 
 pub use changing::changes;
+pub use inserting::insert_job;
 pub use kinds::{Cause, Change, Halves, Job, Kept, SqlError, Table};
 pub use rows::{TableRows, any_missing, least_missing, missing_rows};
-pub use settling::{delete_job, insert_job, query_error, update_job};
+pub use settling::{delete_job, query_error, update_job};
 pub use showing::{MAX_REPLY, rows_shown};
 pub use sites::{BesideRef, SiteRef};
 pub use steps::{begun_row, invalid_cause, show_heavy};

@@ -3,14 +3,14 @@ ghost use Rattle.std.specs.Prelude.{◌≡◌, ◌<◌, Some, IfOk, is_none, len
 ghost use Rattle.std.specs.List.{filter, list_any};
 ghost use Rattle.std.specs.Option.{option_map};
 ghost use Rattle.std.specs.Ordering.{int_eq};
-
 ghost use Rattle.sql_eval.specs.Row.{least};
+ghost use Rattle.row_rules.specs.Accept as accept;
 ghost use Rattle.row_rules.specs.Inner as inner;
 ghost use Rattle.row_rules.specs.Rows.{missing_keys};
 ghost use Rattle.row_rules.specs.Site.{is_missing};
 
 use crate::kinds::Kept;
-use sql_base::{Copying, List, NoMemory};
+use sql_base::{Copying, List, NoMemory, try_map};
 use std::alloc::Global;
 
 /// The rows of a table, place by place.
@@ -119,4 +119,22 @@ pub fn missing_rows<T: TableRows>(alloc: Global, rows: &T, n: u32) -> Result<Lis
         }
     }
     Ok(missing)
+}
+
+/// All of these rows.
+pub fn all_rows<T: TableRows>(alloc: Global, rows: &T) -> Result<List<Kept>, NoMemory>
+    ensures { IfOk result (λ all. all ≡ T.rows rows.now) }
+{
+    let mut all = List::new(alloc);
+    for at in 0..rows.count() {
+        all.push(rows.row_at(alloc, at)?)?;
+    }
+    Ok(all)
+}
+
+/// The keys of rows.
+pub fn keys_of(alloc: Global, rows: &[Kept]) -> Result<List<i64>, NoMemory>
+    ensures { IfOk result (λ keys. keys ≡ accept.keys_of rows.now) }
+{
+    try_map(alloc, rows, |row| Ok(row.key))
 }

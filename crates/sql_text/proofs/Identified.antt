@@ -12,7 +12,7 @@ use Rattle.std.proofs.lemmas.Slice.Eq.{bytes_eq-Decides}
 use Rattle.sql_text.specs.declared.keys.Key.{Key}
 use Rattle.sql_text.specs.declared.tokens.Token.{Token}
 use Rattle.sql_text.specs.declared.tokens.Token.TheVariants as t
-use Rattle.sql_text.specs.Identifier.{IdentifiersAreNames, is_plain, plain_name, before_quote, only_name, quoted_name, name_with, name_in, behind_quote}
+use Rattle.sql_text.specs.Identifier.{IdentifiersAreNames, is_plain, plain_name, before_quote, only_name, quoted_name, name_with}
 use Rattle.sql_text.specs.Keys.{is_reserved, key_of}
 use Rattle.sql_text.specs.Lexing.{begins, is_blank, is_name, is_word_byte, max_name, named, tokens_of, word_token}
 use Rattle.sql_text.proofs.Pieces.{toks, placeless, end_piece}

@@ -2,11 +2,13 @@
 #![tactic(auto)]
 
 mod asking;
+mod crossing;
 mod storing;
 mod taking;
 #[cfg(test)]
 mod tests;
 
 pub use asking::{AsAsked, AtPause, Rising, ask_by_two};
+pub use crossing::clear_by_two;
 pub use storing::put;
 pub use taking::{Taken, take};

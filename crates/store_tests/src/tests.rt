@@ -2,7 +2,7 @@
 ghost use Rattle.std.specs.Prelude.{◌≤◌, length, IfOk};
 ghost use Rattle.row_lock.specs.Holding.{size};
 
-use crate::{AsAsked, AtPause, Rising, Taken, ask_by_two, put, take};
+use crate::{AsAsked, AtPause, Rising, Taken, ask_by_two, clear_by_two, put, take};
 use pace::{Brake, Pacer, Progress, Turn};
 use row_lock::{Locks, Reach};
 use row_store::RowStore;
@@ -197,5 +197,16 @@ fn kept_functions_are_asked(rt: HostRuntime) -> Result<(), Fail> {
     assert!(rt; brake.ask(later) == Turn::Stop);
     let (first, second) = ask_by_two(&rt, &pacer, progress, later);
     assert_eq!(rt; (first, second), (2_346, 2_347));
+    Ok(())
+}
+
+#[test]
+fn rows_and_locks_go_to_other_threads(rt: HostRuntime) -> Result<(), Fail> {
+    let store = four_rows(rt.alloc())?;
+    let mut locks = Locks::new(rt.alloc());
+    let taken = take(&mut locks, 9, 1, Reach::Table)?;
+    assert!(rt; taken == Taken::All && locks.open_count() == 1);
+    let (store, locks) = clear_by_two(&rt, store, 5, locks, 9);
+    assert!(rt; store.len() == 3 && store.get(5).is_none() && locks.open_count() == 0);
     Ok(())
 }
