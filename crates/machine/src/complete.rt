@@ -168,7 +168,7 @@ fn lost_in_table(
     }
 }
 
-fn lost_columns(
+fn columns_lost(
     alloc: Global,
     fates: &[(u32, Fate)],
     tables: &[(u32, List<Kept>)],
@@ -246,7 +246,7 @@ fn completed_tables(
     Ok(completed)
 }
 
-fn completed(
+fn completed_state(
     alloc: Global,
     s: &State,
     name: &Name,
@@ -256,7 +256,7 @@ fn completed(
     ensures { IfOk result (λ t. t ≡ spec.completed s.now name.now schema.now fates.now) }
 {
     let tables = completed_tables(alloc, schema, fates, s.tables.as_slice())?;
-    let lost_columns = lost_columns(alloc, fates, tables.as_slice())?;
+    let lost_columns = columns_lost(alloc, fates, tables.as_slice())?;
     Ok(State {
         version: name.copy(alloc)?,
         schema: schema.copy(alloc)?,
@@ -283,7 +283,7 @@ fn finish(alloc: Global, s: &State) -> Result<(Reply, State), Stop<Refusal>>
         } => match may_not_complete(alloc, s)? {
             Some(refusal) => Err(Stop::Because(refusal)),
             None => {
-                let after = completed(alloc, s, name, schema, fates.as_slice())?;
+                let after = completed_state(alloc, s, name, schema, fates.as_slice())?;
                 Ok((Reply::Complete(1), after))
             }
         },
@@ -357,7 +357,7 @@ fn without_steps(alloc: Global, s: &State) -> Result<State, NoMemory>
     })
 }
 
-fn tidied(alloc: Global, s: &State) -> Result<(Reply, State), NoMemory>
+fn tidy(alloc: Global, s: &State) -> Result<(Reply, State), NoMemory>
     ensures { IfOk result (λ done. done ≡ told (spec.tidied s.now)) }
 {
     if s.left == 2 {
@@ -375,7 +375,7 @@ pub fn complete(alloc: Global, s: &State) -> Result<(Reply, State), Stop<Refusal
 {
     match s.kind {
         Kind::Nothing => finish(alloc, s),
-        Kind::Complete => Ok(tidied(alloc, s)?),
+        Kind::Complete => Ok(tidy(alloc, s)?),
         Kind::Rollback => Err(Stop::Because(Refusal::Unfinished(Kind::Rollback))),
     }
 }

@@ -16,7 +16,7 @@ use crate::events::Reply;
 use crate::refusals::{inactive, limit, refused_batch, steps_left};
 use crate::states::State;
 use crate::tables::{SharedTable, filling_site, rows_of, shared};
-use crate::writing::changed;
+use crate::writing::job_done;
 use mig_lens::Refusal;
 use row_rules::{Cause, Change, Job, Kept, Stop, any_missing, cause_together, changes};
 use sql_base::{Copying, List, NoMemory};
@@ -114,7 +114,7 @@ fn rows_at(alloc: Global, keys: &[i64], rows: &[Kept]) -> Result<List<Kept>, NoM
 // ---- the batch
 
 // These rows get their new halves: each is made and looked at before the next one.
-fn filled(
+fn filled_rows(
     alloc: Global,
     s: &State,
     pair: SharedTable<'_>,
@@ -147,7 +147,7 @@ fn batch_changed(
 ) -> Result<(Reply, State), NoMemory>
     ensures { IfOk result (λ done. done ≡ told (changed s.now (state.filling_site s.now (plain.pair pair.entry)) Job.Fill all.now)) }
 {
-    changed(alloc, s, filling_site(s, pair), &Job::Fill, all)
+    job_done(alloc, s, filling_site(s, pair), &Job::Fill, all)
 }
 
 // The filled rows stand, where they are accepted beside the others.
@@ -174,7 +174,7 @@ fn batch(
 ) -> Result<(Reply, State), Stop<Refusal>>
     ensures { Answers (replied (spec.batch s.now (plain.pair pair.entry) rows.now)) result }
 {
-    match filled(alloc, s, pair, rows) {
+    match filled_rows(alloc, s, pair, rows) {
         Ok(all) => batch_settled(alloc, s, pair, all.as_slice()),
         Err(Stop::Because(cause)) => {
             Err(Stop::Because(refused_batch(alloc, &pair.new.0, &cause)?))

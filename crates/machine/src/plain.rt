@@ -14,7 +14,7 @@ use crate::replies::{over_limit, syntax, wide_literal};
 use crate::start::start;
 use crate::statement::{BegunRef, begun};
 use crate::states::State;
-use crate::writing::{shown, written};
+use crate::writing::{job_outcome, query_outcome};
 use mig_lens::Refusal;
 use row_rules::Stop;
 use sql_base::{Copying, Name, NoMemory, Stmt};
@@ -29,12 +29,12 @@ fn path_set(alloc: Global, s: &State) -> Result<(Reply, State), Stop<Reply>>
     Ok((Reply::Set, same))
 }
 
-fn finished(alloc: Global, s: &State, begun: &BegunRef<'_>) -> Result<(Reply, State), Stop<Reply>>
+fn begun_outcome(alloc: Global, s: &State, begun: &BegunRef<'_>) -> Result<(Reply, State), Stop<Reply>>
     ensures { Answers (replied (statement.finished s.now (plain.begun begun.now))) result }
 {
     match begun {
-        BegunRef::Writes(site, job) => written(alloc, s, *site, job),
-        BegunRef::Shows(site, items, condition) => shown(alloc, s, *site, items, condition),
+        BegunRef::Writes(site, job) => job_outcome(alloc, s, *site, job),
+        BegunRef::Shows(site, items, condition) => query_outcome(alloc, s, *site, items, condition),
         BegunRef::Sets => path_set(alloc, s),
     }
 }
@@ -48,10 +48,10 @@ fn answer(
     ensures { Answers (replied (statement.answer s.now path.now stmt.now)) result }
 {
     let begun = begun(alloc, s, path, stmt)?;
-    finished(alloc, s, &begun)
+    begun_outcome(alloc, s, &begun)
 }
 
-fn said(
+fn line_outcome(
     alloc: Global,
     s: &State,
     path: &[Name],
@@ -71,7 +71,7 @@ fn said(
 // ---- commands
 
 // A refused command is answered its refusal.
-fn answered(outcome: Result<(Reply, State), Stop<Refusal>>) -> Result<(Reply, State), Stop<Reply>>
+fn with_refusal(outcome: Result<(Reply, State), Stop<Refusal>>) -> Result<(Reply, State), Stop<Reply>>
     ensures { result ≡ plain.with_refusal outcome }
 {
     match outcome {
@@ -81,14 +81,14 @@ fn answered(outcome: Result<(Reply, State), Stop<Refusal>>) -> Result<(Reply, St
     }
 }
 
-fn outcome(alloc: Global, s: &State, event: &Event) -> Result<(Reply, State), Stop<Reply>>
+fn event_outcome(alloc: Global, s: &State, event: &Event) -> Result<(Reply, State), Stop<Reply>>
     ensures { Answers (replied (spec.outcome_of s.now event.now)) result }
 {
     match event {
-        Event::Said(path, reading) => said(alloc, s, path.as_slice(), reading),
-        Event::Start(asked) => answered(start(alloc, s, asked)),
-        Event::Fill(count) => answered(least_fill(alloc, s, *count)),
-        Event::Complete => answered(complete(alloc, s)),
+        Event::Said(path, reading) => line_outcome(alloc, s, path.as_slice(), reading),
+        Event::Start(asked) => with_refusal(start(alloc, s, asked)),
+        Event::Fill(count) => with_refusal(least_fill(alloc, s, *count)),
+        Event::Complete => with_refusal(complete(alloc, s)),
     }
 }
 
@@ -100,7 +100,7 @@ fn outcome(alloc: Global, s: &State, event: &Event) -> Result<(Reply, State), St
 pub fn step(alloc: Global, s: &State, event: &Event) -> Result<(State, Reply), NoMemory>
     ensures { IfOk result (spec.IsPlainStep s.now event.now) }
 {
-    match outcome(alloc, s, event) {
+    match event_outcome(alloc, s, event) {
         Ok((reply, after)) => Ok((after, reply)),
         Err(Stop::Because(reply)) => Ok((s.copy(alloc)?, reply)),
         Err(Stop::NoMemory) => Err(NoMemory),

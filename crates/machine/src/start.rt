@@ -56,7 +56,7 @@ fn active(alloc: Global, mode: &Mode) -> Result<Option<Refusal>, NoMemory>
     }
 }
 
-fn taken(alloc: Global, s: &State, name: &Name) -> Result<Option<Refusal>, NoMemory>
+fn name_taken(alloc: Global, s: &State, name: &Name) -> Result<Option<Refusal>, NoMemory>
     ensures { IfOk result (λ refusal. refusal ≡ spec.taken s.now name.now) }
 {
     if name.as_slice() == s.version.as_slice() {
@@ -80,13 +80,13 @@ pub fn may_not_start(alloc: Global, s: &State, m: &Migration) -> Result<Option<R
     if let Some(refusal) = active(alloc, &s.mode)? {
         return Ok(Some(refusal));
     }
-    taken(alloc, s, &m.name)
+    name_taken(alloc, s, &m.name)
 }
 
 // ---- its plan
 
 // A migration that has no plan is refused for the plan's fault.
-fn unplanned(alloc: Global, fault: PlanFault) -> Result<Refusal, NoMemory>
+fn plan_refusal(alloc: Global, fault: PlanFault) -> Result<Refusal, NoMemory>
     ensures { IfOk result (λ refusal. refusal ≡ spec.unplanned fault) }
 {
     let refusal = match fault {
@@ -113,7 +113,7 @@ pub fn planned(alloc: Global, s: &State, m: &Migration) -> Result<Plan, Stop<Ref
     match plan(alloc, &s.schema, s.next_table, m) {
         Ok(plan) => Ok(plan),
         Err(PlanFault::NoMemory) => Err(Stop::NoMemory),
-        Err(fault) => Err(Stop::Because(unplanned(alloc, fault)?)),
+        Err(fault) => Err(Stop::Because(plan_refusal(alloc, fault)?)),
     }
 }
 
@@ -185,7 +185,7 @@ fn too_heavy(alloc: Global, s: &State, plan: &Plan) -> Result<Option<Refusal>, N
 
 // ---- the start
 
-fn started(alloc: Global, s: &State, name: &Name, plan: Plan) -> Result<State, NoMemory>
+fn started_state(alloc: Global, s: &State, name: &Name, plan: Plan) -> Result<State, NoMemory>
     ensures { IfOk result (λ t. t ≡ spec.started s.now name.now plan) }
 {
     let tables = begun_tables(alloc, plan.fates.as_slice(), s.tables.as_slice())?;
@@ -218,7 +218,7 @@ fn start_planned(
     }
     Ok((
         Reply::Start(m.name.copy(alloc)?),
-        started(alloc, s, &m.name, plan)?,
+        started_state(alloc, s, &m.name, plan)?,
     ))
 }
 

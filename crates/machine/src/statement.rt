@@ -29,7 +29,7 @@ pub enum BegunRef<'a> {
 }
 
 // The table of a name through a path, or the refusal.
-fn found<'a>(
+fn found_table<'a>(
     alloc: Global,
     s: &'a State,
     path: &[Name],
@@ -56,7 +56,7 @@ fn begun_insert<'a>(
     if rows.len() > MAX_INSERT {
         return Err(Stop::Because(over_limit(alloc, b"insert")?));
     }
-    let found = found(alloc, s, path, name)?;
+    let found = found_table(alloc, s, path, name)?;
     match insert_job(alloc, found.table, names, rows) {
         Ok(job) => Ok(BegunRef::Writes(site_of(s, found), job)),
         Err(Stop::Because(error)) => Err(Stop::Because(error_reply(error))),
@@ -74,7 +74,7 @@ fn begun_update<'a>(
 ) -> Result<BegunRef<'a>, Stop<Reply>>
     ensures { AnswersAs plain.begun (spec.begun s.now path.now (Stmt.Update name.now sets.now condition.now)) result }
 {
-    let found = found(alloc, s, path, name)?;
+    let found = found_table(alloc, s, path, name)?;
     match update_job(alloc, &found.table.2, sets, condition) {
         Ok(job) => Ok(BegunRef::Writes(site_of(s, found), job)),
         Err(Stop::Because(error)) => Err(Stop::Because(error_reply(error))),
@@ -91,7 +91,7 @@ fn begun_delete<'a>(
 ) -> Result<BegunRef<'a>, Stop<Reply>>
     ensures { AnswersAs plain.begun (spec.begun s.now path.now (Stmt.Delete name.now condition.now)) result }
 {
-    let found = found(alloc, s, path, name)?;
+    let found = found_table(alloc, s, path, name)?;
     match delete_job(alloc, &found.table.2, condition) {
         Ok(job) => Ok(BegunRef::Writes(site_of(s, found), job)),
         Err(Stop::Because(error)) => Err(Stop::Because(error_reply(error))),
@@ -109,7 +109,7 @@ fn begun_query<'a>(
 ) -> Result<BegunRef<'a>, Stop<Reply>>
     ensures { AnswersAs plain.begun (spec.begun s.now path.now (Stmt.Query name.now items.now condition.now)) result }
 {
-    let found = found(alloc, s, path, name)?;
+    let found = found_table(alloc, s, path, name)?;
     match query_error(alloc, &found.table.2, items, condition)? {
         Some(error) => Err(Stop::Because(error_reply(error))),
         None => Ok(BegunRef::Shows(site_of(s, found), items, condition)),

@@ -29,7 +29,7 @@ fn state_after(
 }
 
 /// The changes of a job stand: the reply, and the state with its rows.
-pub fn changed(
+pub fn job_done(
     alloc: Global,
     s: &State,
     site: SiteRef<'_>,
@@ -76,7 +76,7 @@ fn refused_all(
     }
 }
 
-fn settled(
+fn job_settled(
     alloc: Global,
     s: &State,
     site: SiteRef<'_>,
@@ -87,12 +87,12 @@ fn settled(
 {
     match refused_all(alloc, s, site, job, all)? {
         Some(reply) => Err(Stop::Because(reply)),
-        None => Ok(changed(alloc, s, site, job, all)?),
+        None => Ok(job_done(alloc, s, site, job, all)?),
     }
 }
 
 /// A job is done on the rows of a site, or refused.
-pub fn written(
+pub fn job_outcome(
     alloc: Global,
     s: &State,
     site: SiteRef<'_>,
@@ -101,14 +101,14 @@ pub fn written(
     ensures { Answers (replied (spec.written s.now (sites.site_of site.entry) job.now)) result }
 {
     match changes(alloc, site, job, &rows_of(s, site.here.1)) {
-        Ok(all) => settled(alloc, s, site, job, all.as_slice()),
+        Ok(all) => job_settled(alloc, s, site, job, all.as_slice()),
         Err(Stop::Because(cause)) => Err(Stop::Because(row_reply(cause))),
         Err(Stop::NoMemory) => Err(Stop::NoMemory),
     }
 }
 
 /// What a question about the rows of a site comes to.
-pub fn shown(
+pub fn query_outcome(
     alloc: Global,
     s: &State,
     site: SiteRef<'_>,

@@ -5,4 +5,4 @@ use Rattle.machine.specs.Words.job
 use Rattle.machine.proofs.fill.batch_changed.Goals as goal
 
 pub returns : goal.returns
-returns c = subst (λ site. IfOk c.changed.result (λ done. done ≡ told (changed c.args.s.now site job.Fill c.args.all.now))) c.filling_site.ensures c.changed.ensures
+returns c = subst (λ site. IfOk c.job_done.result (λ done. done ≡ told (changed c.args.s.now site job.Fill c.args.all.now))) c.filling_site.ensures c.job_done.ensures
