@@ -1,5 +1,5 @@
 -- Tables of a state that stands, as commands go through them.
-use Rattle.std.proofs.Common.{◌≡◌, ◌∙◌, ℕ, List, [], ◌∷◌, true, Some, None, is_some, ap, sym, subst}
+use Rattle.std.proofs.Common.{◌≡◌, ◌∙◌, ℕ, List, [], true, is_some, ap, sym, subst}
 use Rattle.std.specs.List.{AllByRecursion as Each, list_any}
 use Rattle.std.specs.Option.{option_map_or}
 use Rattle.std.specs.Prelude.{nat_eq}
@@ -7,7 +7,7 @@ use Rattle.machine.specs.Below.{Below}
 use Rattle.machine.specs.Laws.{FilledRowsHaveHalves, IsShared, StartsStand, TablesAreShared, TablesHaveTheirRows, TablesStay}
 use Rattle.machine.specs.Migrate.{numbers_of}
 use Rattle.machine.specs.Standing.{IsState, ModeStands, NewerStands}
-use Rattle.machine.specs.State.{lens_among, rows_of}
+use Rattle.machine.specs.State.{rows_of}
 use Rattle.machine.specs.Words.{Both, Fate, Schema, State, table_numbered}
 use Rattle.machine.proofs.Completing.{IsPaired, all_paired, whole_tables}
 use Rattle.machine.proofs.Joining.{on_new, paired}

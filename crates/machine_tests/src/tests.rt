@@ -1,12 +1,13 @@
 mod replies;
 mod scripts;
 
-use machine::{Asked, Event, Reading, State, beginning, step};
+use machine::{Asked, Event, Reading, Reply, State, beginning, step};
 use mig_json::{JsonFault, read_migration};
-use mig_lens::Refusal;
+use mig_lens::{ColumnDef, Migration, Op, Refusal};
 use replies::reply_text;
-use scripts::{Line, SCRIPTS, line_of, names_of};
-use sql_base::{Copying, Expr, Items, List, Name, NoMemory, Stmt};
+use scripts::{Line, SCRIPTS, line_of};
+use sql_base::{Copying, Expr, List, Name, NoMemory, Stmt, Ty, Value};
+use sql_parse::{ParseFault, parse_expr, parse_stmt};
 use std::alloc::Global;
 use std::test::Fail;
 
@@ -22,20 +23,10 @@ fn name(alloc: Global, word: &str) -> Result<Name, NoMemory> {
     Name::from_slice(alloc, word.as_bytes())
 }
 
-fn names(alloc: Global, words: &str) -> Result<List<Name>, NoMemory> {
+fn first_path(alloc: Global) -> Result<List<Name>, NoMemory> {
     let mut list = List::new(alloc);
-    for word in names_of(words) {
-        list.push(name(alloc, word)?)?;
-    }
+    list.push(name(alloc, "public_01_users")?)?;
     Ok(list)
-}
-
-fn columns(alloc: Global, words: &str) -> Result<Items, NoMemory> {
-    let mut list = List::new(alloc);
-    for word in names_of(words) {
-        list.push(Expr::Col(name(alloc, word)?))?;
-    }
-    Ok(Items::Listed(list))
 }
 
 fn asked(alloc: Global, text: &str) -> Result<Asked, NoMemory> {
@@ -52,32 +43,75 @@ fn asked(alloc: Global, text: &str) -> Result<Asked, NoMemory> {
     }
 }
 
-fn said(alloc: Global, path: &List<Name>, stmt: Option<Stmt>) -> Result<Event, NoMemory> {
-    let reading = match stmt {
-        Some(stmt) => Reading::Stmt(stmt),
-        None => Reading::Syntax,
+// A migration that adds to users the column age, which takes no NULL.
+fn adds_age(alloc: Global, default: Value, up: Option<Expr>) -> Result<Asked, NoMemory> {
+    let column = ColumnDef {
+        name: name(alloc, "age")?,
+        ty: Ty::Bigint,
+        nullable: false,
+        pk: false,
+        unique: false,
+        default,
+        check: None,
     };
-    Ok(Event::Said(path.copy(alloc)?, reading))
+    let mut operations = List::new(alloc);
+    operations.push(Op::AddColumn {
+        table: name(alloc, "users")?,
+        column,
+        up,
+    })?;
+    Ok(Asked::Read(Migration {
+        name: name(alloc, "02_age")?,
+        operations,
+    }))
 }
 
-fn selected(alloc: Global, words: &str) -> Result<Stmt, NoMemory> {
-    Ok(Stmt::Query(name(alloc, "users")?, columns(alloc, words)?, None))
+fn made_age(alloc: Global, up: &str) -> Result<Asked, NoMemory> {
+    if up.len() > MAX_LINE {
+        return Err(NoMemory);
+    }
+    match parse_expr(alloc, up.as_bytes()) {
+        Ok(up) => adds_age(alloc, Value::Null, Some(up)),
+        Err(_) => Err(NoMemory),
+    }
+}
+
+// The most bytes of a line.
+const MAX_LINE: usize = 4096;
+
+fn reading(alloc: Global, line: &str) -> Result<Reading, NoMemory> {
+    let text = line.as_bytes();
+    if text.len() > MAX_LINE {
+        return Ok(Reading::TooLong);
+    }
+    match parse_stmt(alloc, text) {
+        Ok(stmt) => Ok(Reading::Stmt(stmt)),
+        Err(ParseFault::Syntax { .. }) => Ok(Reading::Syntax),
+        Err(ParseFault::Wide { .. }) => Ok(Reading::Wide),
+        Err(ParseFault::Deep) => Ok(Reading::Deep),
+        Err(ParseFault::NoMemory) => Err(NoMemory),
+    }
+}
+
+fn said(alloc: Global, path: &List<Name>, line: &str) -> Result<Event, NoMemory> {
+    let reading = reading(alloc, line)?;
+    Ok(Event::Said(path.copy(alloc)?, reading))
 }
 
 fn event_of(alloc: Global, path: &List<Name>, line: &str) -> Result<Event, NoMemory> {
     match line_of(line) {
         Line::Start(text) => Ok(Event::Start(asked(alloc, text)?)),
+        Line::Default(n) => Ok(Event::Start(adds_age(alloc, Value::Int(n), None)?)),
+        Line::Made(up) => Ok(Event::Start(made_age(alloc, up)?)),
         Line::Batch(count) => Ok(Event::Fill(count)),
         Line::Complete => Ok(Event::Complete),
-        Line::Path(words) => said(alloc, path, Some(Stmt::SetPath(names(alloc, words)?))),
-        Line::Columns(words) => said(alloc, path, Some(selected(alloc, words)?)),
-        Line::Other(text) => said(alloc, path, sql_small::read(alloc, text.as_bytes())?),
+        Line::Said(text) => said(alloc, path, text),
     }
 }
 
-fn path_after(alloc: Global, line: &str, path: List<Name>) -> Result<List<Name>, NoMemory> {
-    match line_of(line) {
-        Line::Path(words) => names(alloc, words),
+fn path_after(alloc: Global, event: &Event, path: List<Name>) -> Result<List<Name>, NoMemory> {
+    match event {
+        Event::Said(_, Reading::Stmt(Stmt::SetPath(names))) => names.copy(alloc),
         _ => Ok(path),
     }
 }
@@ -89,7 +123,7 @@ fn taken(alloc: Global, lane: Lane, line: &str) -> Result<Lane, NoMemory> {
     told.extend_from_slice(reply_text(alloc, &reply)?.as_slice())?;
     Ok(Lane {
         state,
-        path: path_after(alloc, line, lane.path)?,
+        path: path_after(alloc, &event, lane.path)?,
         told,
     })
 }
@@ -97,7 +131,7 @@ fn taken(alloc: Global, lane: Lane, line: &str) -> Result<Lane, NoMemory> {
 fn run(alloc: Global, script: &str) -> Result<Vec<u8>, NoMemory> {
     let mut lane = Lane {
         state: beginning(alloc)?,
-        path: names(alloc, "public_01_users")?,
+        path: first_path(alloc)?,
         told: Vec::new(alloc),
     };
     for line in script.split('\n') {
@@ -113,7 +147,37 @@ fn worked_examples_come_out(rt: HostRuntime) -> Result<(), Fail> {
     let alloc = rt.alloc();
     for (script, wanted) in SCRIPTS {
         let told = run(alloc, script)?;
-        assert!(rt; told.as_slice() == wanted.as_bytes(), "{script}");
+        let text = std::str::from_utf8(told.as_slice()).unwrap_or("?");
+        assert!(rt; text == wanted, "{script}{text}");
     }
+    Ok(())
+}
+
+fn said_first(alloc: Global, reading: Reading) -> Result<Event, NoMemory> {
+    let path = first_path(alloc)?;
+    Ok(Event::Said(path, reading))
+}
+
+fn first_reply(alloc: Global, event: &Event) -> Result<Reply, NoMemory> {
+    let state = beginning(alloc)?;
+    let (_, reply) = step(alloc, &state, event)?;
+    Ok(reply)
+}
+
+fn told_to(alloc: Global, reading: Reading) -> Result<Vec<u8>, NoMemory> {
+    let event = said_first(alloc, reading)?;
+    let reply = first_reply(alloc, &event)?;
+    reply_text(alloc, &reply)
+}
+
+#[test]
+fn a_line_without_a_statement_is_answered(rt: HostRuntime) -> Result<(), Fail> {
+    let alloc = rt.alloc();
+    let long = told_to(alloc, Reading::TooLong)?;
+    assert!(rt; long.as_slice() == "ERROR 54000 statement -\n".as_bytes());
+    let wide = told_to(alloc, Reading::Wide)?;
+    assert!(rt; wide.as_slice() == "ERROR 22003 - -\n".as_bytes());
+    let deep = told_to(alloc, Reading::Deep)?;
+    assert!(rt; deep.as_slice() == "ERROR 54000 depth -\n".as_bytes());
     Ok(())
 }

@@ -1,7 +1,14 @@
+pub mod Ascending
 pub mod Asking
 pub mod Calls
 pub mod Clashing
+pub mod KeyForms
+pub mod Lasting
+pub mod Looking
 pub mod Making
+pub mod OneRow
 pub mod Passing
 pub mod Places
+pub mod Reaching
+pub mod ShownKeys
 pub mod Uniques

@@ -1,8 +1,12 @@
 pub mod Accept
 pub mod Changes
 pub mod Causes
+pub mod Forms
+pub mod InReach
 pub mod Inner
+pub mod Laws
 pub mod Outcome
+pub mod Reach
 pub mod Rows
 pub mod Settle
 pub mod Show

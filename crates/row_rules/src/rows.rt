@@ -69,6 +69,48 @@ impl TableRows for &[Kept] {
     }
 }
 
+/// One row or none, as where a statement reaches one key.
+impl TableRows for Option<Kept> {
+    ghost use Rattle.row_rules.specs.Reach.{row_alone};
+
+    ghost rows = { λ row. row_alone row };
+
+    fn count(&self) -> usize {
+        match self {
+            Some(_) => 1,
+            None => 0,
+        }
+    }
+
+    fn key_at(&self, _at: usize) -> i64 {
+        match self {
+            Some(row) => row.key,
+            None => unreachable!(),
+        }
+    }
+
+    fn misses_at(&self, _at: usize) -> bool {
+        match self {
+            Some(row) => row.halves.new.is_none(),
+            None => unreachable!(),
+        }
+    }
+
+    fn has_key(&self, key: i64) -> bool {
+        match self {
+            Some(row) => key == row.key,
+            None => false,
+        }
+    }
+
+    fn row_at(&self, alloc: Global, _at: usize) -> Result<Kept, NoMemory> {
+        match self {
+            Some(row) => row.copy(alloc),
+            None => unreachable!(),
+        }
+    }
+}
+
 /// Whether one of these rows is still to be filled.
 pub fn any_missing<T: TableRows>(rows: &T) -> bool
     ensures { result ≡ list_any is_missing (T.rows rows.now) }

@@ -47,11 +47,17 @@ fn push_rows(alloc: Global, out: &mut Vec<u8>, rows: &List<List<Value>>) -> Resu
 
 fn code_word(code: Code) -> &'static str {
     match code {
-        Code::C42P01 => "42P01",
-        Code::C42703 => "42703",
+        Code::C0A000 => "0A000",
+        Code::C22003 => "22003",
+        Code::C22012 => "22012",
+        Code::C23502 => "23502",
         Code::C23505 => "23505",
-        Code::C54000 => "54000",
         Code::C42601 => "42601",
+        Code::C42701 => "42701",
+        Code::C42703 => "42703",
+        Code::C42804 => "42804",
+        Code::C42P01 => "42P01",
+        Code::C54000 => "54000",
         _ => "another code",
     }
 }
@@ -103,6 +109,20 @@ fn push_name(out: &mut Vec<u8>, what: &str, name: &Name) -> Result<(), NoMemory>
     push(out, "\n")
 }
 
+fn push_backfill(
+    alloc: Global,
+    out: &mut Vec<u8>,
+    table: &Name,
+    key: i64,
+    code: Code,
+) -> Result<(), NoMemory> {
+    push(out, "REFUSED P19 ")?;
+    push(out, word(table))?;
+    push(out, format!(in alloc; " {key} ")?.as_str())?;
+    push(out, code_word(code))?;
+    push(out, "\n")
+}
+
 fn push_refusal(alloc: Global, out: &mut Vec<u8>, refusal: &Refusal) -> Result<(), NoMemory> {
     match refusal {
         Refusal::AlreadyActive(name) => push_name(out, "REFUSED P1 ", name),
@@ -113,8 +133,8 @@ fn push_refusal(alloc: Global, out: &mut Vec<u8>, refusal: &Refusal) -> Result<(
         Refusal::NoSuchTable(name) => push_name(out, "REFUSED P7 ", name),
         Refusal::Exists(name) => push_name(out, "REFUSED P9 ", name),
         Refusal::BadJson(path) => push_name(out, "REFUSED P16 ", path),
-        Refusal::BackfillRefused(table, key, _) => {
-            push_two(alloc, out, "REFUSED P19 ", table, *key)
+        Refusal::BackfillRefused(table, key, code) => {
+            push_backfill(alloc, out, table, *key, *code)
         }
         Refusal::Limit(which) => push_name(out, "REFUSED P20 ", which),
         _ => push(out, "REFUSED otherwise\n"),
@@ -137,11 +157,13 @@ fn push_fill(
     )
 }
 
-/// The lines of a reply, without its number and actor. (A SELECT's number of rows is left out.)
+/// The lines of a reply, without its number and actor. (A SELECT's number of rows is left out, and nothing is escaped.)
 pub fn reply_text(alloc: Global, reply: &Reply) -> Result<Vec<u8>, NoMemory> {
     let mut out = Vec::new(alloc);
     match reply {
         Reply::Insert(count) => push(&mut out, format!(in alloc; "INSERT 0 {count}\n")?.as_str())?,
+        Reply::Update(count) => push(&mut out, format!(in alloc; "UPDATE {count}\n")?.as_str())?,
+        Reply::Delete(count) => push(&mut out, format!(in alloc; "DELETE {count}\n")?.as_str())?,
         Reply::Select(rows) => push_rows(alloc, &mut out, rows)?,
         Reply::Set => push(&mut out, "SET\n")?,
         Reply::Error { code, name, key } => push_error(alloc, &mut out, *code, name, *key)?,

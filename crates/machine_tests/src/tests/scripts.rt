@@ -4,11 +4,11 @@
 #[derive(Drop)]
 pub enum Line<'a> {
     Start(&'a str),
+    Default(i64),
+    Made(&'a str),
     Batch(u32),
     Complete,
-    Path(&'a str),
-    Columns(&'a str),
-    Other(&'a str),
+    Said(&'a str),
 }
 
 /// What a line is.
@@ -16,44 +16,39 @@ pub fn line_of(line: &str) -> Line<'_> {
     if let Some(text) = line.strip_prefix("\\start ") {
         return Line::Start(text);
     }
+    if let Some(value) = line.strip_prefix("\\default ") {
+        return Line::Default(value.parse::<i64>().unwrap_or(0));
+    }
+    if let Some(up) = line.strip_prefix("\\made ") {
+        return Line::Made(up);
+    }
     if let Some(count) = line.strip_prefix("\\batch ") {
         return Line::Batch(count.parse::<u32>().unwrap_or(0));
     }
-    if let Some(words) = line.strip_prefix("path ") {
-        return Line::Path(words);
-    }
-    if let Some(words) = line.strip_prefix("columns ") {
-        return Line::Columns(words);
-    }
     match line {
         "\\complete" => Line::Complete,
-        _ => Line::Other(line),
+        _ => Line::Said(line),
     }
 }
 
-/// The words of a list.
-pub fn names_of(words: &str) -> std::str::Split<'_, char> {
-    words.split(' ')
-}
-
-/// The scripts, each with what it is answered. `path` sets the search path, and `columns` selects these columns of
-/// users.
-pub const SCRIPTS: [(&str, &str); 10] = [
+/// The scripts, each with what it is answered. `\default` and `\made` start a migration that adds to users the column age,
+/// which takes no NULL, with this default, or with this `up`.
+pub const SCRIPTS: [(&str, &str); 18] = [
     (
         "\
 INSERT INTO users (id, name) VALUES (1, 'a')
 INSERT INTO users (id, name) VALUES (2, 'b')
 INSERT INTO users (id, name) VALUES (3, 'c')
 \\start {\"name\":\"02_add_age\",\"operations\":[{\"add_column\":{\"table\":\"users\",\"column\":{\"name\":\"age\",\"type\":\"bigint\",\"nullable\":true},\"up\":\"0\"}}]}
-path public_02_add_age
+SET search_path TO public_02_add_age
 SELECT * FROM users
 \\batch 2
-columns id age
+SELECT id, age FROM users
 \\batch 2
 \\complete
 \\complete
 \\complete
-path public_01_users
+SET search_path TO public_01_users
 SELECT * FROM users
 \\complete
 ",
@@ -114,8 +109,8 @@ INSERT INTO users (id, name) VALUES (7, 'g')
 INSERT INTO users (id, name) VALUES (8, 'h')
 \\complete
 \\batch 5
-path public_02_nick public_01_users
-columns nick id
+SET search_path TO public_02_nick, public_01_users
+SELECT nick, id FROM users
 SELECT * FROM users
 \\batch 5
 \\complete
@@ -166,7 +161,7 @@ REFUSED P9 name
 INSERT INTO users (id, name) VALUES (1, 'a')
 \\start {\"name\":\"02_age\",\"operations\":[{\"add_column\":{\"table\":\"users\",\"column\":{\"name\":\"age\",\"type\":\"bigint\",\"nullable\":true}}}]}
 \\batch 9
-path public_02_age
+SET search_path TO public_02_age
 SELECT * FROM users
 INSERT INTO users (id, name) VALUES (2, 'b')
 \\complete
@@ -179,18 +174,19 @@ FILLED
 SET
 SELECT
   1|a|\\N
-ERROR 42601 - -
+INSERT 0 1
 COMPLETE 1
 SELECT
   1|a|\\N
+  2|b|\\N
 ",
     ),
     (
         "\
 INSERT INTO users (id, name) VALUES (1, 'a')
 INSERT INTO users (id, name) VALUES (1, 'z')
-columns x
-columns name id id
+SELECT x FROM users
+SELECT name, id, id FROM users
 SELEC
 ",
         "\
@@ -204,9 +200,9 @@ ERROR 42601 - -
     ),
     (
         "\
-path nowhere
+SET search_path TO nowhere
 SELECT * FROM users
-path nowhere public_01_users
+SET search_path TO nowhere, public_01_users
 SELECT * FROM users
 ",
         "\
@@ -226,6 +222,227 @@ SELECT
 REFUSED P16 name
 REFUSED P16 operations[0]
 START public_02_b
+",
+    ),
+    (
+        "\
+INSERT INTO users (id, name) VALUES (1, 'a'), (2, 'b'), (3, 'c')
+\\start {\"name\":\"02_add_age\",\"operations\":[{\"add_column\":{\"table\":\"users\",\"column\":{\"name\":\"age\",\"type\":\"bigint\",\"nullable\":true},\"up\":\"0\"}}]}
+\\batch 2
+UPDATE users SET name = 'cc' WHERE id = 3
+\\batch 2
+SELECT * FROM users WHERE id > 2
+",
+        "\
+INSERT 0 3
+START public_02_add_age
+FILL users 2 1 2
+UPDATE 1
+FILLED
+SELECT
+  3|cc
+",
+    ),
+    (
+        "\
+INSERT INTO users (id, name) VALUES (1, 'a'), (2, 'b'), (3, 'c')
+\\start {\"name\":\"02_add_age\",\"operations\":[{\"add_column\":{\"table\":\"users\",\"column\":{\"name\":\"age\",\"type\":\"bigint\",\"nullable\":true},\"up\":\"0\"}}]}
+SET search_path TO public_02_add_age
+UPDATE users SET name = 'z' WHERE age = 0
+UPDATE users SET name = 'eve' WHERE id = 1
+UPDATE users SET age = age + 5 WHERE id = 2
+SELECT * FROM users
+SET search_path TO public_01_users
+SELECT * FROM users
+DELETE FROM users WHERE name = 'eve'
+SET search_path TO public_02_add_age
+SELECT name FROM users WHERE age IS NULL
+",
+        "\
+INSERT 0 3
+START public_02_add_age
+SET
+UPDATE 0
+UPDATE 1
+UPDATE 1
+SELECT
+  1|eve|0
+  2|b|5
+  3|c|\\N
+SET
+SELECT
+  1|eve
+  2|b
+  3|c
+DELETE 1
+SET
+SELECT
+  c
+",
+    ),
+    (
+        "\
+INSERT INTO users (id, name) VALUES (1, 'a'), (2, 'b'), (3, 'c')
+\\made CASE WHEN name = 'b' THEN NULL ELSE 1 END
+\\batch 10
+\\complete
+UPDATE users SET name = 'b' WHERE id > 1
+UPDATE users SET name = 'd' WHERE id = 2
+\\batch 10
+\\complete
+",
+        "\
+INSERT 0 3
+START public_02_age
+REFUSED P19 users 2 23502
+REFUSED P4 users 1
+ERROR 23502 users_age_not_null 2
+UPDATE 1
+FILL users 2 1 3
+COMPLETE 1
+",
+    ),
+    (
+        "\
+INSERT INTO users (id, name) VALUES (1, 'a'), (2, 'b'), (3, 'c')
+SELECT -9223372036854775808 / -1 FROM users WHERE id = 1
+SELECT -9223372036854775808 % -1 FROM users WHERE id = 1
+SELECT NULL AND FALSE, NULL OR TRUE, -7 / 2, -7 % 2 FROM users WHERE id = 1
+SELECT 10 / (id - 2) FROM users WHERE id <> 2
+SELECT 10 / (id - 2) FROM users
+SELECT id FROM users WHERE name
+",
+        "\
+INSERT 0 3
+ERROR 22003 - 1
+SELECT
+  0
+SELECT
+  false|true|-3|-1
+SELECT
+  -10
+  10
+ERROR 22012 - 2
+ERROR 42804 - -
+",
+    ),
+    (
+        "\
+INSERT INTO users (id, name) VALUES (1, 'a'), (2, 'b'), (3, 'c')
+UPDATE users SET name = name || '|' WHERE id < 3
+SELECT name FROM users WHERE id = 2
+UPDATE users SET id = 9
+UPDATE users SET x = 9
+UPDATE users SET name = 'a', name = 'b'
+UPDATE users SET name = 9
+UPDATE users SET name = NULL WHERE id = 3
+UPDATE users SET name = 'x' WHERE 10 / (id - 2) > 0
+SELECT * FROM users
+UPDATE users SET name = 'x'
+SELECT * FROM users
+",
+        "\
+INSERT 0 3
+UPDATE 2
+SELECT
+  b|
+ERROR 0A000 id -
+ERROR 42703 x -
+ERROR 42701 name -
+ERROR 42804 - -
+ERROR 23502 users_name_not_null 3
+ERROR 22012 - 2
+SELECT
+  1|a|
+  2|b|
+  3|c
+UPDATE 3
+SELECT
+  1|x
+  2|x
+  3|x
+",
+    ),
+    (
+        "\
+INSERT INTO users (id, name) VALUES (1, 'a'), (2, 'b'), (3, 'c')
+INSERT INTO users (name, id) VALUES ('e', 5), ('d', 4)
+INSERT INTO users (id, name) VALUES (1, 'z')
+INSERT INTO users (id, name) VALUES (7, 'g'), (6, 'f'), (7, 'h')
+INSERT INTO users (id) VALUES (6)
+INSERT INTO users (name) VALUES ('f')
+INSERT INTO users (id, name) VALUES (6)
+INSERT INTO users (id, id) VALUES (6, 6)
+INSERT INTO users (id, name) VALUES (3 + 3, upper('f'))
+SELECT * FROM users WHERE id > 3
+SELEC
+SELECT x FROM users
+",
+        "\
+INSERT 0 3
+INSERT 0 2
+ERROR 23505 users_pkey 1
+ERROR 23505 users_pkey 7
+ERROR 23502 users_name_not_null 6
+ERROR 23502 users_id_not_null -
+ERROR 42601 - -
+ERROR 42701 id -
+INSERT 0 1
+SELECT
+  4|d
+  5|e
+  6|F
+ERROR 42601 - -
+ERROR 42703 x -
+",
+    ),
+    (
+        "\
+INSERT INTO users (id, name) VALUES (1, 'a'), (2, 'b'), (3, 'c')
+DELETE FROM users WHERE 10 / (id - 2) > 0
+DELETE FROM users WHERE id
+DELETE FROM users WHERE NULL
+DELETE FROM users WHERE id = 2
+SELECT * FROM users
+DELETE FROM users
+SELECT * FROM users
+DELETE FROM people
+",
+        "\
+INSERT 0 3
+ERROR 22012 - 2
+ERROR 42804 - -
+DELETE 0
+DELETE 1
+SELECT
+  1|a
+  3|c
+DELETE 2
+SELECT
+ERROR 42P01 people -
+",
+    ),
+    (
+        "\
+\\default 7
+INSERT INTO users (id, name) VALUES (1, 'a')
+SET search_path TO public_02_age
+INSERT INTO users (id, name) VALUES (2, 'b')
+INSERT INTO users (id, name, age) VALUES (3, 'c', 9)
+INSERT INTO users (id, name, age) VALUES (4, 'd', NULL)
+SELECT * FROM users
+",
+        "\
+START public_02_age
+INSERT 0 1
+SET
+INSERT 0 1
+INSERT 0 1
+ERROR 23502 users_age_not_null 4
+SELECT
+  1|a|7
+  2|b|7
+  3|c|9
 ",
     ),
     ("\n", ""),

@@ -1,0 +1,12 @@
+//! Laws over the definitions alone. Each is the contract of a function that does nothing.
+ghost use Rattle.row_rules.specs.Laws.{ChangesKeepOrder, OldShowsOldHalves};
+
+/// Where rows ascend by key, they do so after any changes.
+pub fn changes_keep_order()
+    ensures { ChangesKeepOrder }
+{}
+
+/// What a row shows through the old version never depends on its new half.
+pub fn the_old_version_shows_old_halves()
+    ensures { OldShowsOldHalves }
+{}
