@@ -2,6 +2,7 @@
 ghost use Rattle.std.specs.Prelude.{◌≡◌, ◌⊎◌, ◌<◌, ◌≤◌, ◌++◌, List, [], Some, length, IfOk};
 ghost use Rattle.pg_io.specs.Causes.{Rose};
 ghost use Rattle.machine.specs.declared.events.Entry.{Entry};
+ghost use Rattle.machine.specs.State.{beginning};
 ghost use Rattle.pgroll_top.specs.declared.ending.End.TheVariants.{Usage, WantOfMemory};
 ghost use Rattle.pgroll_top.specs.Top.{HasBadLine, IsForm, end_line, limit, texts};
 ghost use Rattle.pgroll_top.specs.Work.{IsHistory, IsShown, Follows, Begins, lines_of};
@@ -17,7 +18,7 @@ pub fn over_memory(
     words: &[String],
     input: Vec<u8>,
 ) -> Result<(u8, Vec<u8>), NoMemory>
-    ensures done { IfOk result (λ r. r.0 ≡ 0 → (history : List Entry) × IsHistory history × Follows history input.items × (r.1.items ≡ lines_of history) × (length input.items ≤ limit)) }
+    ensures done { IfOk result (λ r. r.0 ≡ 0 → (history : List Entry) × IsHistory history × Follows (texts words.now) beginning history input.items × (r.1.items ≡ lines_of history) × (length input.items ≤ limit)) }
 {
     let mut source = MemSource::new(input, Vec::new(alloc));
     let mut sink = MemSink::new(alloc, Vec::new(alloc));
@@ -28,7 +29,7 @@ pub fn over_memory(
 /// The status of a call between a source and a sink in memory.
 pub fn between(alloc: Global, words: &[String], input: &mut MemSource, out: &mut MemSink) -> u8
     // All is done: the whole input was read, and the lines of one history were written.
-    ensures done { result ≡ 0 → (history : List Entry) × IsHistory history × Follows history input.old.left
+    ensures done { result ≡ 0 → (history : List Entry) × IsHistory history × Follows (texts words.now) beginning history input.old.left
         × (out.new.held ≡ out.old.held ++ lines_of history) × (length input.old.left ≤ limit) }
 
     // Without the form, and where no write failed, the usage line is written and nothing is read.
@@ -37,7 +38,7 @@ pub fn between(alloc: Global, words: &[String], input: &mut MemSource, out: &mut
 
     // Memory was wanting, for the input or after its lines were read: the lines of all entries but perhaps the last were written, whole, and then the line that tells it.
     ensures wanting { result ≡ 6 → (history : List Entry) × (shown : List Entry) × IsHistory history
-        × ((history ≡ []) ⊎ Begins history input.old.left) × IsShown shown history × (out.new.held ≡ out.old.held ++ (lines_of shown ++ end_line WantOfMemory)) }
+        × ((history ≡ []) ⊎ Begins (texts words.now) beginning history input.old.left) × IsShown shown history × (out.new.held ≡ out.old.held ++ (lines_of shown ++ end_line WantOfMemory)) }
 
     // An input with a line that breaks the rules is told, unless memory is wanting or something failed.
     ensures bad { IsForm (texts words.now) → HasBadLine (Some input.old.left)

@@ -8,11 +8,12 @@ use Rattle.machine.specs.declared.states.State.{State}
 use Rattle.machine.specs.declared.tasks.Task.{Task}
 use Rattle.machine.specs.Follows.{Does, path_after, path_by}
 use Rattle.machine.specs.Step.{LaneRun, LaneStep, Run, Step}
+use Rattle.roll_core.specs.Store.{Stored, meaning}
 use Rattle.sql_base.specs.declared.codes.Code.{Code}
 use Rattle.sql_base.specs.declared.stmts.Stmt.TheVariants.{SetPath}
 use Rattle.machine.specs.declared.events.Event.TheVariants.{Said}
 use Rattle.machine.specs.declared.events.Reading.{Reading}
-use Rattle.machine.specs.declared.events.Reading.TheVariants.{Stmt as Read, Syntax}
+use Rattle.machine.specs.declared.events.Reading.TheVariants.{Stmt as Read, TooLong, Syntax, Wide, Deep}
 use Rattle.machine.specs.declared.events.Reply.TheVariants.{Error}
 use Rattle.pgroll_top.specs.declared.ending.Stop.{Stop}
 use Rattle.pgroll_top.specs.declared.ending.Stop.TheVariants.{NoMemory}
@@ -48,8 +49,8 @@ refusal_append (entry ∷ h) e = ap (λ b. refuses entry.reply || b) (refusal_ap
 
 pub advances_more : (old mid new : Lane) (h e : List Entry) → Advances old mid h → Advances mid new e → Advances old new (h ++ e)
 advances_more old mid new h e first second = record {
-  run = run_append (old.number + 1) old.core h mid.core e new.core first.run (let same : mid.number + 1 ≡ old.number + 1 + length h = omega (arith, first.number) in subst (λ k. Run k mid.core e new.core) same second.run);
-  lane_run = lane_run_append (old.number + 1) old.core h mid.core e new.core first.lane_run (let same : mid.number + 1 ≡ old.number + 1 + length h = omega (arith, first.number) in subst (λ k. LaneRun k mid.core e new.core) same second.lane_run);
+  run = run_append (old.number + 1) (meaning old.core) h (meaning mid.core) e (meaning new.core) first.run (let same : mid.number + 1 ≡ old.number + 1 + length h = omega (arith, first.number) in subst (λ k. Run k (meaning mid.core) e (meaning new.core)) same second.run);
+  lane_run = lane_run_append (old.number + 1) (meaning old.core) h (meaning mid.core) e (meaning new.core) first.lane_run (let same : mid.number + 1 ≡ old.number + 1 + length h = omega (arith, first.number) in subst (λ k. LaneRun k (meaning mid.core) e (meaning new.core)) same second.lane_run);
   number = omega (arith, first.number, second.number, length-append h e);
   path = second.path ∙ ap (λ path. path_after path e) first.path ∙ sym (path_append old.path h e);
   refused = second.refused ∙ ap (λ b. b || has_refusal e) first.refused ∙ or_assoc old.refused (has_refusal h) (has_refusal e) ∙ ap (λ b. old.refused || b) (sym (refusal_append h e));
@@ -65,20 +66,20 @@ abbrev pub entry_of : Lane → ℕ → Event → Reply → Entry
 entry_of old actor what reply = record { number = old.number + 1; actor = actor; event = what; reply = reply }
 
 -- The lane after it, which has this core and goes through this path.
-abbrev pub lane_after : Lane → State → List (List ℕ) → Reply → Lane
+abbrev pub lane_after : Lane → Stored → List (List ℕ) → Reply → Lane
 lane_after old core path reply = record { core = core; path = path; number = old.number + 1; refused = old.refused || refuses reply }
 
 -- What holds of its core holds of the lane after it.
-pub core_after : (P : State → Type 0) (mid new : Lane) (core : State) (path : List (List ℕ)) (reply : Reply) → new ≡ lane_after mid core path reply → P core → P new.core
+pub core_after : (P : Stored → Type 0) (mid new : Lane) (core : Stored) (path : List (List ℕ)) (reply : Reply) → new ≡ lane_after mid core path reply → P core → P new.core
 core_after P mid new core path reply is = subst P (sym (ap (λ (lane : Lane). lane.core) is))
 
-pub advances_one : (old : Lane) (actor : ℕ) (what : Event) (reply : Reply) (core : State) (path : List (List ℕ)) (new : Lane)
-    → Step old.core what reply core → LaneStep old.core what reply core → path ≡ path_by old.path what reply → new ≡ lane_after old core path reply
+pub advances_one : (old : Lane) (actor : ℕ) (what : Event) (reply : Reply) (core : Stored) (path : List (List ℕ)) (new : Lane)
+    → Step (meaning old.core) what reply (meaning core) → LaneStep (meaning old.core) what reply (meaning core) → path ≡ path_by old.path what reply → new ≡ lane_after old core path reply
     → Advances old new (entry_of old actor what reply ∷ [])
 advances_one old actor what reply core path new step lane_step moved is =
     subst (λ lane. Advances old lane (entry_of old actor what reply ∷ [])) (sym is) (record {
-      run = (refl, core, step, refl);
-      lane_run = (refl, core, lane_step, refl);
+      run = (refl, meaning core, step, refl);
+      lane_run = (refl, meaning core, lane_step, refl);
       number = refl;
       path = moved;
       refused = ap (λ b. old.refused || b) (sym (or_false (refuses reply)));
@@ -89,8 +90,8 @@ comes path one (Ok done) entries does = does
 comes path one (Err stop) entries does = does_begins numbers path one entries does
 
 -- a task of one event
-pub does_one : (old : Lane) (output : Known) (one : Task) (actor : ℕ) (what : Event) (reply : Reply) (core : State) (path : List (List ℕ)) (new : Lane) (result : Result (Unit {0}) Stop)
-    → Step old.core what reply core → LaneStep old.core what reply core → path ≡ path_by old.path what reply → new ≡ lane_after old core path reply
+pub does_one : (old : Lane) (output : Known) (one : Task) (actor : ℕ) (what : Event) (reply : Reply) (core : Stored) (path : List (List ℕ)) (new : Lane) (result : Result (Unit {0}) Stop)
+    → Step (meaning old.core) what reply (meaning core) → LaneStep (meaning old.core) what reply (meaning core) → path ≡ path_by old.path what reply → new ≡ lane_after old core path reply
     → Shows output (line_of (entry_of old actor what reply)) result
     → Does numbers old.path one (entry_of old actor what reply ∷ [])
     → DoesTask old new output one result
@@ -99,16 +100,16 @@ does_one old output one actor what reply core path new result step lane_step mov
     (entry ∷ [], advances_one old actor what reply core path new step lane_step moved is, tells_one output entry result shown, comes old.path one result (entry ∷ []) does)
 
 -- a task of which nothing was done, for want of memory
-pub none_done : (old : Lane) (core : State) → core ≡ old.core → (told : Option (List ℕ)) (a : ℕ) (one : Task)
+pub none_done : (old : Lane) (core : Stored) → core ≡ old.core → (told : Option (List ℕ)) (a : ℕ) (one : Task)
     → DoesTask old (record { core = core; path = old.path; number = old.number; refused = old.refused }) (record { before = told; after = told; faults_before = a; faults_after = a }) one (Err NoMemory)
 none_done old core same told a one =
     ([], subst (λ s. Advances old (record { core = s; path = old.path; number = old.number; refused = old.refused }) []) (sym same) (advances_none old), tells_none told a, begins_none numbers old.path (one ∷ []))
 
 -- a refusal leaves the path
-pub path_stays : (path said : List (List ℕ)) (reading : Reading) (answer : Reply) (code : Code) (name : Option (List ℕ)) (key : Option ℤ) → answer ≡ Error code name key → path ≡ path_by path (Said said reading) answer
-path_stays path said reading answer code name key is = subst (λ r. path ≡ path_by path (Said said reading) r) (sym is) (by_reading reading)
-  where
-    by_reading : (reading : Reading) → path ≡ path_by path (Said said reading) (Error code name key)
-    by_reading (Read (SetPath names)) = refl
-    by_reading (Read _) = refl
-    by_reading Syntax = refl
+pub path_stays : (path said : List (List ℕ)) (reading : Reading) (code : Code) (name : Option (List ℕ)) (key : Option ℤ) → path ≡ path_by path (Said said reading) (Error code name key)
+path_stays path said (Read (SetPath names)) code name key = refl
+path_stays path said (Read _) code name key = refl
+path_stays path said TooLong code name key = refl
+path_stays path said Syntax code name key = refl
+path_stays path said Wide code name key = refl
+path_stays path said Deep code name key = refl

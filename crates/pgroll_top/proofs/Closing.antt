@@ -22,12 +22,12 @@ use Rattle.pgroll_top.specs.Top.{Closes, IsForm, IsInput, Explains, end_line, li
 pub unread : {T : Type 0} (words : List (List ℕ)) (input output : Known) (status : ℕ) (fault : InputFault)
     → IsForm words → ReadsFront input.before input.after → IsErrOf {T = T} (Err fault) InputFailed ⊎ Quiet input
     → (IsErrOf {T = T} (Err fault) InputFailed → Faulted input) → (IsErrOf {T = T} (Err fault) TooLong → PassesLimit limit input.before input.after)
-    → Closes output [] (end_of_fault fault) status → (h : List Entry) × Explains words input output status h
-unread words input output status InputFailed form front quiet failed long closes = ([], ((beginning, refl, refl), inl (end_of_fault InputFailed, [], (form, failed refl, front, refl, refl), closes)))
+    → Closes output [] (end_of_fault fault) status → (h : List Entry) × Explains words beginning input output status h
+unread words input output status InputFailed form front quiet failed long closes = ([], ((beginning, (refl, refl)), inl (end_of_fault InputFailed, [], (form, failed refl, front, refl, refl), closes)))
 unread words input output status TooLong form front (inl other) failed long closes = cc
-unread words input output status TooLong form front (inr quiet) failed long closes = ([], ((beginning, refl, refl), inl (end_of_fault TooLong, [], (form, long refl, quiet, refl, refl), closes)))
+unread words input output status TooLong form front (inr quiet) failed long closes = ([], ((beginning, (refl, refl)), inl (end_of_fault TooLong, [], (form, long refl, quiet, refl, refl), closes)))
 unread words input output status OutOfMemory form front (inl other) failed long closes = cc
-unread words input output status OutOfMemory form front (inr quiet) failed long closes = ([], ((beginning, refl, refl), inl (end_of_fault OutOfMemory, [], (form, inr (refl, front, quiet), inl refl), closes)))
+unread words input output status OutOfMemory form front (inr quiet) failed long closes = ([], ((beginning, (refl, refl)), inl (end_of_fault OutOfMemory, [], (form, inr (refl, front, quiet), inl refl), closes)))
 
 -- a line behind those that were written
 pub closes_after : (before middle now : Option (List ℕ)) (a b c : ℕ) (whole : List ℕ) (end : End) (status : ℕ)
@@ -56,11 +56,11 @@ one_word (w ∷ v ∷ words) word low high e = absurd (omega arith)
 -- a call whose input doesn't read
 pub unscripted : (words : List (List ℕ)) (input output : Known) (status : ℕ) (text slice : List ℕ) (fault : ScriptFault)
     → IsForm words → IsInput input text → slice ≡ text → (fault ≢ ScriptMemory → script_of slice ≡ Err fault)
-    → Closes output [] (end_of_script fault) status → (h : List Entry) × Explains words input output status h
+    → Closes output [] (end_of_script fault) status → (h : List Entry) × Explains words beginning input output status h
 unscripted words input output status text slice (BadLine number) form whole same bad closes =
-    ([], ((beginning, refl, refl), inl (BadScript number, [], (form, (text, whole, subst (λ z. script_of z ≡ Err (BadLine number)) same (bad (λ e. cc))), refl, refl), closes)))
+    ([], ((beginning, (refl, refl)), inl (BadScript number, [], (form, (text, whole, subst (λ z. script_of z ≡ Err (BadLine number)) same (bad (λ e. cc))), refl, refl), closes)))
 unscripted words input output status text slice ScriptMemory form whole same bad closes =
-    ([], ((beginning, refl, refl), inl (WantOfMemory, [], (form, inr (refl, (text, whole.0.taken), whole.2), inl refl), closes)))
+    ([], ((beginning, (refl, refl)), inl (WantOfMemory, [], (form, inr (refl, (text, whole.0.taken), whole.2), inl refl), closes)))
 
 -- ---- a call that worked
 
@@ -69,17 +69,17 @@ module _ (words : List (List ℕ)) (input : Known) (before middle now : Option (
   reads_so : script_of text ≡ Ok lines
   reads_so = subst (λ z. script_of z ≡ Ok lines) same reads
 
-  follows_text : (h : List Entry) → FollowsLines h view → Follows h text
-  follows_text h follows = (lines, reads_so, subst (FollowsLines h) viewed follows)
+  follows_text : (h : List Entry) → FollowsLines beginning h view → Follows words beginning h text
+  follows_text h follows = (lines, reads_so, subst (FollowsLines beginning h) viewed follows)
 
-  begins_text : (h : List Entry) → BeginsLines h view → Begins h text
-  begins_text h begins = (lines, reads_so, subst (BeginsLines h) viewed begins)
+  begins_text : (h : List Entry) → BeginsLines beginning h view → Begins words beginning h text
+  begins_text h begins = (lines, reads_so, subst (BeginsLines beginning h) viewed begins)
 
   -- to the end
   pub all_done : (refused : Bool) (status : ℕ)
-      → (h : List Entry) × IsHistory h × Works view (record { before = before; after = middle; faults_before = a; faults_after = b }) (Ok refused) h
+      → (h : List Entry) × IsHistory h × Works beginning view (record { before = before; after = middle; faults_before = a; faults_after = b }) (Ok refused) h
       → Closes (record { before = middle; after = now; faults_before = b; faults_after = c }) [] (end_of_work refused) status
-      → (h : List Entry) × Explains words input (record { before = before; after = now; faults_before = a; faults_after = c }) status h
+      → (h : List Entry) × Explains words beginning input (record { before = before; after = now; faults_before = a; faults_after = c }) status h
   all_done true status (h, history, (follows, refused, tells)) closes =
       (h, (history, inl (Refused, h, (form, (text, whole, follows_text h follows), refl, refused), closes_after before middle now a b c (lines_of h) Refused status tells.0 tells.1 closes)))
   all_done false status (h, history, (follows, refused, tells)) closes =
@@ -87,15 +87,15 @@ module _ (words : List (List ℕ)) (input : Known) (before middle now : Option (
 
   -- till memory was wanting
   pub out_of_memory : (status : ℕ)
-      → (h : List Entry) × IsHistory h × Works view (record { before = before; after = middle; faults_before = a; faults_after = b }) (Err NoMemory) h
+      → (h : List Entry) × IsHistory h × Works beginning view (record { before = before; after = middle; faults_before = a; faults_after = b }) (Err NoMemory) h
       → Closes (record { before = middle; after = now; faults_before = b; faults_after = c }) [] WantOfMemory status
-      → (h : List Entry) × Explains words input (record { before = before; after = now; faults_before = a; faults_after = c }) status h
+      → (h : List Entry) × Explains words beginning input (record { before = before; after = now; faults_before = a; faults_after = c }) status h
   out_of_memory status (h, history, (begins, (shown, front, written, quiet))) closes =
       (h, (history, inl (WantOfMemory, shown, (form, inl (text, whole, begins_text h begins), front), closes_after before middle now a b c (lines_of shown) WantOfMemory status written quiet closes)))
 
   -- till the writing of a line failed
-  pub cut_off : (h : List Entry) × IsHistory h × Works view (record { before = before; after = middle; faults_before = a; faults_after = b }) (Err WriteFault) h
-      → (h : List Entry) × Explains words input (record { before = before; after = middle; faults_before = a; faults_after = b }) 4 h
+  pub cut_off : (h : List Entry) × IsHistory h × Works beginning view (record { before = before; after = middle; faults_before = a; faults_after = b }) (Err WriteFault) h
+      → (h : List Entry) × Explains words beginning input (record { before = before; after = middle; faults_before = a; faults_after = b }) 4 h
   cut_off (h, history, (begins, cut)) = (h, (history, inr (form, refl, inl (text, whole, begins_text h begins), cut)))
 
 -- where a call answered Ok, no fault was counted

@@ -5,6 +5,7 @@ pub mod Following
 pub mod Reading
 pub mod Refusals
 pub mod Repeating
+pub mod Replying
 pub mod Tasks
 pub mod Telling
 pub mod Working

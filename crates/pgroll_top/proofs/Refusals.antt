@@ -20,7 +20,7 @@ use Rattle.machine.specs.declared.tasks.Task.TheVariants as task
 use Rattle.machine.specs.Follows as follow
 use Rattle.machine.specs.Laws.{OnlyCommandsAreRefused}
 use Rattle.machine.specs.Step.{Run, Step}
-use Rattle.machine.specs.State.{beginning, path_name}
+use Rattle.machine.specs.State.{path_name}
 use Rattle.report.specs.Lines.{code_text, four_words, numbered, reply_text, refusal_text, row_text}
 use Rattle.pgroll_top.specs.declared.ending.End.{End}
 use Rattle.pgroll_top.specs.declared.ending.End.TheVariants.{Done, Refused, Usage, ReadFault, InputTooLong, BadScript, WantOfMemory}
@@ -45,6 +45,8 @@ newline = ([], refl)
 
 reply_ends : (answer : Reply) → EndsInNewline (reply_text answer)
 reply_ends (reply.Insert n) = ends_behind (codes "INSERT 0 ") (decimal n ++ codes "\n") (decimal n, refl)
+reply_ends (reply.Update n) = ends_behind (codes "UPDATE ") (decimal n ++ codes "\n") (decimal n, refl)
+reply_ends (reply.Delete n) = ends_behind (codes "DELETE ") (decimal n ++ codes "\n") (decimal n, refl)
 reply_ends (reply.Select rows) =
     let lines = ends_with (codes "\n") (flat_map row_text rows) newline (are_lines row_text (λ row. ends_behind (codes "  ") _ (_, refl)) rows) in
     ends_behind (codes "SELECT ") (decimal (length rows) ++ (codes "\n" ++ flat_map row_text rows)) (ends_behind (decimal (length rows)) (codes "\n" ++ flat_map row_text rows) lines)
@@ -127,6 +129,8 @@ module _ (law : OnlyCommandsAreRefused) where
             lines = ap (λ answer. numbered entry.number (slice_index_or actors entry.actor []) answer ++ lines_of h) is ∙ ap (λ actor. numbered entry.number (slice_index_or actors actor []) (reply.Refused refused) ++ lines_of h) control;
           }
       by_reply (reply.Insert n) is e = cc
+      by_reply (reply.Update n) is e = cc
+      by_reply (reply.Delete n) is e = cc
       by_reply (reply.Select rows) is e = cc
       by_reply reply.Set is e = cc
       by_reply (reply.Error code name key) is e = cc
@@ -151,10 +155,10 @@ module _ (law : OnlyCommandsAreRefused) where
           }
 
   -- an end of status 1 has such a line
-  refused_end : (words : List (List ℕ)) (input output : Known) (end : End) (h shown : List Entry) (last : State) → Run 1 beginning h last → Because words input end h shown → status_of end ≡ 1
+  refused_end : (words : List (List ℕ)) (s : State) (input output : Known) (end : End) (h shown : List Entry) (last : State) → Run 1 s h last → Because words s input end h shown → status_of end ≡ 1
       → Appends output.before output.after (lines_of shown ++ end_line end) → TellsRefusal output
-  refused_end words input output Refused h shown last run (form, (text, whole, (lines, reads, (tasks, are, follows))), same, some) one written =
-      let found = refused_in 1 beginning h last run (follows_by _ tasks h follows) some in record {
+  refused_end words s input output Refused h shown last run (form, (text, whole, (lines, reads, (tasks, are, follows))), same, some) one written =
+      let found = refused_in 1 s h last run (follows_by _ tasks h follows) some in record {
         number = found.number;
         refusal = found.refused;
         before = lines_of found.done;
@@ -162,7 +166,7 @@ module _ (law : OnlyCommandsAreRefused) where
         after = found.rest;
         written = subst (Appends output.before output.after) (append-nil (lines_of shown) ∙ ap lines_of same ∙ found.lines) written;
       }
-  refused_end words input output (BadScript number) h shown last run because one written = record {
+  refused_end words s input output (BadScript number) h shown last run because one written = record {
     number = 0;
     refusal = refusal.BadScript number;
     before = [];
@@ -170,13 +174,13 @@ module _ (law : OnlyCommandsAreRefused) where
     after = [];
     written = subst (Appends output.before output.after) (ap (λ h. lines_of h ++ end_line (BadScript number)) because.3 ∙ sym (append-nil (end_line (BadScript number)))) written;
   }
-  refused_end words input output Done h shown last run because one written = absurd (omega (arith, one))
-  refused_end words input output Usage h shown last run because one written = absurd (omega (arith, one))
-  refused_end words input output ReadFault h shown last run because one written = absurd (omega (arith, one))
-  refused_end words input output InputTooLong h shown last run because one written = absurd (omega (arith, one))
-  refused_end words input output WantOfMemory h shown last run because one written = absurd (omega (arith, one))
+  refused_end words s input output Done h shown last run because one written = absurd (omega (arith, one))
+  refused_end words s input output Usage h shown last run because one written = absurd (omega (arith, one))
+  refused_end words s input output ReadFault h shown last run because one written = absurd (omega (arith, one))
+  refused_end words s input output InputTooLong h shown last run because one written = absurd (omega (arith, one))
+  refused_end words s input output WantOfMemory h shown last run because one written = absurd (omega (arith, one))
 
-  pub refused_cause : (words : List (List ℕ)) (input output : Known) (status : ℕ) → (h : List Entry) × Explains words input output status h → status ≡ 1 → TellsRefusal output
-  refused_cause words input output status (h, ((last, run, lane_run), inl (end, shown, because, inl closes))) e = refused_end words input output end h shown last run because (sym closes.0 ∙ e) closes.1
-  refused_cause words input output status (h, (history, inl (end, shown, because, inr cut))) e = absurd (omega (arith, cut.0))
-  refused_cause words input output status (h, (history, inr breaks)) e = absurd (omega (arith, breaks.1))
+  pub refused_cause : (words : List (List ℕ)) (s : State) (input output : Known) (status : ℕ) → (h : List Entry) × Explains words s input output status h → status ≡ 1 → TellsRefusal output
+  refused_cause words s input output status (h, ((last, (run, lane_run)), inl (end, shown, because, inl closes))) e = refused_end words s input output end h shown last run because (sym closes.0 ∙ e) closes.1
+  refused_cause words s input output status (h, (history, inl (end, shown, because, inr cut))) e = absurd (omega (arith, cut.0))
+  refused_cause words s input output status (h, (history, inr breaks)) e = absurd (omega (arith, breaks.1))

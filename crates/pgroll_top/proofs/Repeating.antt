@@ -6,9 +6,9 @@ use Rattle.pg_io.specs.Laws.{appends_none}
 use Rattle.machine.specs.declared.events.Entry.{Entry}
 use Rattle.machine.specs.declared.events.Event.{Event}
 use Rattle.machine.specs.declared.events.Reply.{Reply}
-use Rattle.machine.specs.declared.states.State.{State}
 use Rattle.machine.specs.Follows.{GoOn, UpTo, path_by}
 use Rattle.machine.specs.Step.{LaneStep, Step}
+use Rattle.roll_core.specs.Store.{Stored, meaning}
 use Rattle.pgroll_top.specs.declared.ending.Stop.{Stop}
 use Rattle.pgroll_top.specs.declared.ending.Stop.TheVariants.{NoMemory}
 use Rattle.pgroll_top.specs.declared.lanes.Lane.{Lane}
@@ -37,9 +37,9 @@ module _ (what : Event) (goes_on : Reply → Bool) where
   pub repeats_none : (lane : Lane) (told : Option (List ℕ)) (a : ℕ) → Repeats lane lane (record { before = told; after = told; faults_before = a; faults_after = a }) []
   repeats_none lane told a = record { advances = advances_none lane; go_on = tt; written = appends_none told; quiet = refl }
 
-  module _ (old mid new : Lane) (reply : Reply) (core : State) (before middle now : Option (List ℕ)) (a b c : ℕ) (entries : List Entry)
+  module _ (old mid new : Lane) (reply : Reply) (core : Stored) (before middle now : Option (List ℕ)) (a b c : ℕ) (entries : List Entry)
       (so_far : Repeats old mid (record { before = before; after = middle; faults_before = a; faults_after = b }) entries)
-      (step : Step mid.core what reply core) (lane_step : LaneStep mid.core what reply core) (still : mid.path ≡ path_by mid.path what reply) (is : new ≡ lane_after mid core mid.path reply) where
+      (step : Step (meaning mid.core) what reply (meaning core)) (lane_step : LaneStep (meaning mid.core) what reply (meaning core)) (still : mid.path ≡ path_by mid.path what reply) (is : new ≡ lane_after mid core mid.path reply) where
     abbrev entry : Entry
     entry = entry_of mid numbers.control what reply
 

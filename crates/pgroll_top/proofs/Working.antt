@@ -5,7 +5,6 @@ use Rattle.std.proofs.lemmas.List.{take_more, take-append-drop}
 use Rattle.pg_io.specs.Outside.{Known}
 use Rattle.pg_io.specs.Laws.{appends_none}
 use Rattle.mig_json.specs.Migration.{TextsReadOrFail}
-use Rattle.sql_small.specs.Small.{ReadsOrNot}
 use Rattle.script_text.specs.declared.lines.Line.{Line}
 use Rattle.machine.specs.declared.events.Entry.{Entry}
 use Rattle.machine.specs.declared.tasks.Task.{Task}
@@ -16,10 +15,12 @@ use Rattle.machine.specs.State.{beginning}
 use Rattle.pgroll_top.specs.declared.ending.Stop.{Stop}
 use Rattle.pgroll_top.specs.declared.ending.Stop.TheVariants.{NoMemory}
 use Rattle.pgroll_top.specs.declared.lanes.Lane.{Lane}
+use Rattle.roll_core.specs.Store.{meaning}
 use Rattle.pgroll_top.specs.Work.{AreTasks, IsHistory, first_path, lines_of, numbers}
 use Rattle.pgroll_top.specs.Parts.{Advances, DoesLine, Works, new_lane}
 use Rattle.pgroll_top.proofs.Advancing.{advances_more, advances_none}
 use Rattle.pgroll_top.proofs.Following.{begins_longer, begins_none, follows_begins, follows_more}
+use Rattle.pgroll_top.proofs.Reading.{LinesReadOrFail}
 use Rattle.pgroll_top.proofs.Tasks.{some_tasks, tasks_append}
 use Rattle.pgroll_top.proofs.Telling.{tells_more, tells_stop}
 
@@ -28,7 +29,7 @@ pub record Worked (lines : List Line) (at : ℕ) (now : Lane) (output : Known) (
   pub advances : Advances new_lane now history
   pub tasks : List Task
   pub are : AreTasks (take at lines) tasks
-  pub follows : follow.Follows numbers first_path tasks history
+  pub follows : follow.Follows numbers (first_path beginning) tasks history
   pub written : Appends output.before output.after (lines_of history)
   pub quiet : output.faults_after ≡ output.faults_before
   pub room : now.number ≤ at * 262145
@@ -46,11 +47,11 @@ no_work lines told a = record {
 }
 
 -- the state stands
-pub stands_there : RunsReachStates → (lines : List Line) (at : ℕ) (now : Lane) (output : Known) (history : List Entry) → Worked lines at now output history → IsState now.core
-stands_there law lines at now output history w = law 1 history now.core w.advances.run
+pub stands_there : RunsReachStates → (lines : List Line) (at : ℕ) (now : Lane) (output : Known) (history : List Entry) → Worked lines at now output history → IsState (meaning now.core)
+stands_there law lines at now output history w = law 1 history (meaning now.core) w.advances.run
 
 pub history_there : (lines : List Line) (at : ℕ) (now : Lane) (output : Known) (history : List Entry) → Worked lines at now output history → IsHistory history
-history_there lines at now output history w = (now.core, w.advances.run, w.advances.lane_run)
+history_there lines at now output history w = (meaning now.core, (w.advances.run, w.advances.lane_run))
 
 module _ (lines : List Line) (at : ℕ) (line : Line) (mid new : Lane) (before middle now : Option (List ℕ)) (a b c : ℕ) (history : List Entry)
     (w : Worked lines at mid (record { before = before; after = middle; faults_before = a; faults_after = b }) history)
@@ -71,7 +72,7 @@ module _ (lines : List Line) (at : ℕ) (line : Line) (mid new : Lane) (before m
           advances = advances_more new_lane mid new history entries w.advances advances;
           tasks = w.tasks ++ one ∷ [];
           are = subst (λ ls. AreTasks ls (w.tasks ++ one ∷ [])) (sym next) (tasks_append (take at lines) (line ∷ []) w.tasks (one ∷ []) w.are (asks, tt));
-          follows = follows_more numbers first_path w.tasks one history entries w.follows (subst (λ path. follow.Does numbers path one entries) w.advances.path does);
+          follows = follows_more numbers (first_path beginning) w.tasks one history entries w.follows (subst (λ path. follow.Does numbers path one entries) w.advances.path does);
           written = told.0;
           quiet = told.1;
           room = omega (arith, w.room, few);
@@ -79,19 +80,19 @@ module _ (lines : List Line) (at : ℕ) (line : Line) (mid new : Lane) (before m
       )
 
   -- the work stopped in it
-  pub worked_stopped : TextsReadOrFail → ReadsOrNot → (stop : Stop) → DoesLine mid new (record { before = middle; after = now; faults_before = b; faults_after = c }) line (Err stop)
-      → (h : List Entry) × IsHistory h × Works lines (record { before = before; after = now; faults_before = a; faults_after = c }) (Err stop) h
+  pub worked_stopped : TextsReadOrFail → LinesReadOrFail → (stop : Stop) → DoesLine mid new (record { before = middle; after = now; faults_before = b; faults_after = c }) line (Err stop)
+      → (h : List Entry) × IsHistory h × Works beginning lines (record { before = before; after = now; faults_before = a; faults_after = c }) (Err stop) h
   worked_stopped law reads stop (one, asks, (entries, advances, tells, begins)) =
       let told = tells_more {T = Unit {0}} before middle now a b c history entries (Err stop) w.written w.quiet tells in
       let advanced = advances_more new_lane mid new history entries w.advances advances in
       let later = some_tasks law reads (drop (at + 1) lines) in (
         history ++ entries,
-        (new.core, advanced.run, advanced.lane_run),
+        (meaning new.core, (advanced.run, advanced.lane_run)),
         (
           (
             w.tasks ++ one ∷ later.0,
             subst (λ ls. AreTasks ls (w.tasks ++ one ∷ later.0)) (sym all) (tasks_append (take at lines) (line ∷ drop (at + 1) lines) w.tasks (one ∷ later.0) w.are (asks, later.1)),
-            follows_begins numbers first_path w.tasks (one ∷ later.0) history entries w.follows (begins_longer numbers (follow.path_after first_path history) one later.0 entries (subst (λ path. follow.Begins numbers path (one ∷ []) entries) w.advances.path begins)),
+            follows_begins numbers (first_path beginning) w.tasks (one ∷ later.0) history entries w.follows (begins_longer numbers (follow.path_after (first_path beginning) history) one later.0 entries (subst (λ path. follow.Begins numbers path (one ∷ []) entries) w.advances.path begins)),
           ),
           tells_stop (Unit {0}) Bool (record { before = before; after = now; faults_before = a; faults_after = c }) stop (history ++ entries) told,
         ),
@@ -104,7 +105,7 @@ take_all (line ∷ lines) zero h = absurd (omega arith)
 take_all (line ∷ lines) (suc at) h = ap (λ z. line ∷ z) (take_all lines at (omega arith))
 
 -- all lines are done
-pub worked_all : (lines : List Line) (at : ℕ) (now : Lane) (output : Known) (history : List Entry) → length lines ≤ at → Worked lines at now output history → Works lines output (Ok now.refused) history
+pub worked_all : (lines : List Line) (at : ℕ) (now : Lane) (output : Known) (history : List Entry) → length lines ≤ at → Worked lines at now output history → Works beginning lines output (Ok now.refused) history
 worked_all lines at now output history end w = (
   (w.tasks, subst (λ ls. AreTasks ls w.tasks) (take_all lines at end) w.are, w.follows),
   sym w.advances.refused,
@@ -112,7 +113,7 @@ worked_all lines at now output history end w = (
 )
 
 -- no line is done, for want of memory
-pub stopped_at_once : TextsReadOrFail → ReadsOrNot → (lines : List Line) (told : Option (List ℕ)) (a : ℕ) → (h : List Entry) × IsHistory h × Works lines (record { before = told; after = told; faults_before = a; faults_after = a }) (Err NoMemory) h
+pub stopped_at_once : TextsReadOrFail → LinesReadOrFail → (lines : List Line) (told : Option (List ℕ)) (a : ℕ) → (h : List Entry) × IsHistory h × Works beginning lines (record { before = told; after = told; faults_before = a; faults_after = a }) (Err NoMemory) h
 stopped_at_once law reads lines told a =
     let tasks = some_tasks law reads lines in
-    ([], (beginning, refl, refl), ((tasks.0, tasks.1, begins_none numbers first_path tasks.0), ([], inl refl, appends_none told, refl)))
+    ([], (beginning, (refl, refl)), ((tasks.0, tasks.1, begins_none numbers (first_path beginning) tasks.0), ([], inl refl, appends_none told, refl)))

@@ -1,31 +1,32 @@
 -- What the parts of a call do, for the contracts of the functions that do them.
-use Rattle.std.specs.Prelude.{◌≡◌, ℕ, ◌+◌, List, [], ◌∷◌, Bool, ◌||◌, false, if◌then◌else◌, length, Option, None, Some, Result, Ok, Err}
+use Rattle.std.specs.Prelude.{◌≡◌, ◌⊎◌, ℕ, ◌+◌, List, [], ◌∷◌, Bool, ◌||◌, false, if◌then◌else◌, length, Result, Ok, Err}
 use Rattle.std.specs.Io.KnownBytes.{Appends, Keeps}
 use Rattle.pg_io.specs.Outside.{Known, Cut, Quiet}
 use Rattle.pg_io.specs.declared.whole.InputFault.{InputFault}
 use Rattle.pg_io.specs.declared.whole.InputFault.TheVariants.{Failed as InputFailed, TooLong, NoMemory as OutOfMemory}
 use Rattle.sql_base.specs.declared.faults.ScriptFault.{ScriptFault}
 use Rattle.sql_base.specs.declared.faults.ScriptFault.TheVariants.{Line as BadLine, NoMemory as ScriptMemory}
-use Rattle.sql_base.specs.declared.stmts.Stmt.{Stmt}
 use Rattle.script_text.specs.declared.lines.Line.{Line}
 use Rattle.machine.specs.declared.events.Entry.{Entry}
-use Rattle.machine.specs.declared.events.Reading.TheVariants.{Stmt as Read, Syntax}
+use Rattle.machine.specs.declared.events.Reply.{Reply}
+use Rattle.machine.specs.declared.states.State.{State}
 use Rattle.machine.specs.declared.tasks.Task.{Task}
 use Rattle.machine.specs.Follows as lane
-use Rattle.machine.specs.State.{beginning}
+use Rattle.machine.specs.Statement.{no_memory}
 use Rattle.machine.specs.Step.{LaneRun, Run}
+use Rattle.roll_core.specs.Engine.{first_stored}
+use Rattle.roll_core.specs.Store.{Stored, meaning}
 use Rattle.pgroll_top.specs.declared.ending.End.{End}
 use Rattle.pgroll_top.specs.declared.ending.End.TheVariants.{Done, Refused, ReadFault, InputTooLong, BadScript, WantOfMemory}
 use Rattle.pgroll_top.specs.declared.ending.Stop.{Stop}
 use Rattle.pgroll_top.specs.declared.ending.Stop.TheVariants.{WriteFault, NoMemory}
 use Rattle.pgroll_top.specs.declared.lanes.Lane.{Lane}
 use Rattle.pgroll_top.specs.Top.{CutAtLast}
-use Rattle.pgroll_top.specs.Work.{ReadsAs, IsShown, IsTask, FollowsLines, BeginsLines, first_path, has_refusal, lines_of, numbers}
+use Rattle.pgroll_top.specs.Work.{IsShown, IsTask, FollowsLines, BeginsLines, first_path, has_refusal, lines_of, numbers}
 
--- What was found in a line: the statement that it is; or none, where it is none.
-abbrev pub IsReading : List ℕ → Option Stmt → Type 0
-IsReading line None = ReadsAs line Syntax
-IsReading line (Some stmt) = ReadsAs line (Read stmt)
+-- This is answered, or want of memory in its place.
+abbrev pub IsOrNoMemory : Reply → Reply → Type 0
+IsOrNoMemory wanted answer = (answer ≡ wanted) ⊎ (answer ≡ no_memory)
 
 -- A line was written, with no fault; or cut short by a fault; or nothing was written for want of memory.
 abbrev pub Shows : Known → List ℕ → Result (Unit {0}) Stop → Type 0
@@ -35,14 +36,18 @@ Shows output line (Err NoMemory) = Keeps output.before output.after × Quiet out
 
 -- ---- a lane at work
 
--- A lane before its first task.
+-- A lane before its first task, over an engine that stores this.
+abbrev pub lane_over : Stored → Lane
+lane_over core = record { core = core; path = first_path (meaning core); number = 0; refused = false }
+
+-- The one that begins as the machine does.
 abbrev pub new_lane : Lane
-new_lane = record { core = beginning; path = first_path; number = 0; refused = false }
+new_lane = lane_over first_stored
 
 -- The lane went on by these entries.
 pub record Advances (old new : Lane) (entries : List Entry) : Type 0 where
-  pub run : Run (old.number + 1) old.core entries new.core
-  pub lane_run : LaneRun (old.number + 1) old.core entries new.core
+  pub run : Run (old.number + 1) (meaning old.core) entries (meaning new.core)
+  pub lane_run : LaneRun (old.number + 1) (meaning old.core) entries (meaning new.core)
   pub number : new.number ≡ old.number + length entries
   pub path : new.path ≡ lane.path_after old.path entries
   pub refused : new.refused ≡ (old.refused || has_refusal entries)
@@ -68,10 +73,10 @@ DoesLine old new output line result = (task : Task) × IsTask line task × DoesT
 
 -- ---- the whole
 
--- What the work on these lines does, by what it answers: whether a command was refused, or why it stopped.
-abbrev pub Works : List Line → Known → Result Bool Stop → List Entry → Type 0
-Works lines output (Ok refused) history = FollowsLines history lines × (has_refusal history ≡ refused) × Tells output (Ok refused) history
-Works lines output (Err stop) history = BeginsLines history lines × Tells {T = Bool} output (Err stop) history
+-- What the work on these lines does, which begins with this state, by what it answers: whether a command was refused, or why it stopped.
+abbrev pub Works : State → List Line → Known → Result Bool Stop → List Entry → Type 0
+Works s lines output (Ok refused) history = FollowsLines s history lines × (has_refusal history ≡ refused) × Tells output (Ok refused) history
+Works s lines output (Err stop) history = BeginsLines s history lines × Tells {T = Bool} output (Err stop) history
 
 -- The end of a call that did all its work.
 abbrev pub end_of_work : Bool → End

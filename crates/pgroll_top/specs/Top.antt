@@ -6,13 +6,14 @@ use Rattle.pg_io.specs.Outside.{Known, Cut, Faulted, Quiet, Untouched, ReadsFron
 use Rattle.sql_base.specs.declared.faults.ScriptFault.TheVariants.{Line as BadLine}
 use Rattle.mig_lens.specs.declared.faults.Refusal.{Refusal}
 use Rattle.mig_lens.specs.declared.faults.Refusal.TheVariants as refusal
-use Rattle.script_text.specs.Script.{script_of}
 use Rattle.machine.specs.declared.events.Entry.{Entry}
+use Rattle.machine.specs.declared.states.State.{State}
 use Rattle.machine.specs.declared.events.Reply.TheVariants as reply
+use Rattle.script_text.specs.Script.{script_of}
 use Rattle.report.specs.Lines.{numbered}
 use Rattle.pgroll_top.specs.declared.ending.End.{End}
 use Rattle.pgroll_top.specs.declared.ending.End.TheVariants.{Done, Refused, Usage, ReadFault, InputTooLong, BadScript, WantOfMemory}
-use Rattle.pgroll_top.specs.Work.{IsHistory, IsShown, Follows, Begins, has_refusal, lines_of, line_of}
+use Rattle.pgroll_top.specs.Work.{IsHistoryFrom, IsShown, Follows, Begins, has_refusal, lines_of, line_of, work_of}
 
 -- ---- words and input
 
@@ -37,8 +38,8 @@ abbrev pub IsInput : Known → List ℕ → Type 0
 IsInput input text = ReadsWhole input.before input.after text × (length text ≤ limit) × Quiet input
 
 -- The whole input was read, and the first of its lines that breaks the rules has this number.
-abbrev pub IsBadInput : Known → ℕ → Type 0
-IsBadInput input number = (text : List ℕ) × IsInput input text × (script_of text ≡ Err (BadLine number))
+abbrev pub IsBadInput : List (List ℕ) → State → Known → ℕ → Type 0
+IsBadInput words s input number = (text : List ℕ) × IsInput input text × (work_of words text s ≡ Err (BadLine number))
 
 -- The input is known, is within the limit, and has a line that breaks the rules.
 abbrev pub HasBadLine : Option (List ℕ) → Type 0
@@ -46,13 +47,14 @@ HasBadLine left = IsSomeAnd left (λ text. (length text ≤ limit) × ((number :
 
 -- ---- the work
 
--- The input was read to its end, and the history does all its work.
-abbrev pub DoesAll : Known → List Entry → Type 0
-DoesAll input history = (text : List ℕ) × IsInput input text × Follows history text
+-- The input was read to its end, and the history does all the work that the words and the input ask for in this state.
+abbrev pub DoesAll : List (List ℕ) → State → Known → List Entry → Type 0
+DoesAll words s input history = (text : List ℕ) × IsInput input text × Follows words s history text
 
--- The input was read to its end, and the history does the first part of its work; or nothing was done, and some front of the input was read, with no fault.
-abbrev pub DoesPart : Known → List Entry → Type 0
-DoesPart input history = ((text : List ℕ) × IsInput input text × Begins history text) ⊎ ((history ≡ []) × ReadsFront input.before input.after × Quiet input)
+-- The input was read to its end, and the history does the first part of that work; or nothing was done, and some front of the input was read, with no fault.
+abbrev pub DoesPart : List (List ℕ) → State → Known → List Entry → Type 0
+DoesPart words s input history =
+    ((text : List ℕ) × IsInput input text × Begins words s history text) ⊎ ((history ≡ []) × ReadsFront input.before input.after × Quiet input)
 
 -- The last entry's line was cut short by a fault, and all lines before it are whole. No entry comes after it.
 abbrev pub CutAtLast : Known → List Entry → Type 0
@@ -88,14 +90,14 @@ abbrev pub IsDone : ℕ → Type 0
 IsDone status = (status ≡ status_of Done) ⊎ (status ≡ status_of Refused)
 
 -- Why the call came to this end, with which history, and which entries of it had their lines written.
-abbrev pub Because : List (List ℕ) → Known → End → List Entry → List Entry → Type 0
-Because words input Done history shown = IsForm words × DoesAll input history × (shown ≡ history) × (has_refusal history ≡ false)
-Because words input Refused history shown = IsForm words × DoesAll input history × (shown ≡ history) × (has_refusal history ≡ true)
-Because words input Usage history shown = ¬ IsForm words × Untouched input × (history ≡ []) × (shown ≡ [])
-Because words input ReadFault history shown = IsForm words × Faulted input × ReadsFront input.before input.after × (history ≡ []) × (shown ≡ [])
-Because words input InputTooLong history shown = IsForm words × PassesLimit limit input.before input.after × Quiet input × (history ≡ []) × (shown ≡ [])
-Because words input (BadScript number) history shown = IsForm words × IsBadInput input number × (history ≡ []) × (shown ≡ [])
-Because words input WantOfMemory history shown = IsForm words × DoesPart input history × IsShown shown history
+abbrev pub Because : List (List ℕ) → State → Known → End → List Entry → List Entry → Type 0
+Because words s input Done history shown = IsForm words × DoesAll words s input history × (shown ≡ history) × (has_refusal history ≡ false)
+Because words s input Refused history shown = IsForm words × DoesAll words s input history × (shown ≡ history) × (has_refusal history ≡ true)
+Because words s input Usage history shown = ¬ IsForm words × Untouched input × (history ≡ []) × (shown ≡ [])
+Because words s input ReadFault history shown = IsForm words × Faulted input × ReadsFront input.before input.after × (history ≡ []) × (shown ≡ [])
+Because words s input InputTooLong history shown = IsForm words × PassesLimit limit input.before input.after × Quiet input × (history ≡ []) × (shown ≡ [])
+Because words s input (BadScript number) history shown = IsForm words × IsBadInput words s input number × (history ≡ []) × (shown ≡ [])
+Because words s input WantOfMemory history shown = IsForm words × DoesPart words s input history × IsShown shown history
 
 -- The call came to an end: some lines were written, and then the end's own line, and no write failed; or that line was cut short by a fault.
 abbrev pub Closes : Known → List ℕ → End → ℕ → Type 0
@@ -103,17 +105,18 @@ Closes output whole end status =
     ((status ≡ status_of end) × Appends output.before output.after (whole ++ end_line end) × Quiet output) ⊎ ((status ≡ write_fault) × Cut output whole (end_line end))
 
 -- The call came to an end, for a cause.
-abbrev pub Ends : List (List ℕ) → Known → Known → ℕ → List Entry → Type 0
-Ends words input output status history =
-    (end : End) × (shown : List Entry) × Because words input end history shown × Closes output (lines_of shown) end status
+abbrev pub Ends : List (List ℕ) → State → Known → Known → ℕ → List Entry → Type 0
+Ends words s input output status history =
+    (end : End) × (shown : List Entry) × Because words s input end history shown × Closes output (lines_of shown) end status
 
 -- The writing of an entry's line failed.
-abbrev pub Breaks : List (List ℕ) → Known → Known → ℕ → List Entry → Type 0
-Breaks words input output status history = IsForm words × (status ≡ write_fault) × DoesPart input history × CutAtLast output history
+abbrev pub Breaks : List (List ℕ) → State → Known → Known → ℕ → List Entry → Type 0
+Breaks words s input output status history = IsForm words × (status ≡ write_fault) × DoesPart words s input history × CutAtLast output history
 
--- This history explains the call: it is a run of the machine, and the words, what was read, what was written and the status are as it says. A call ends in one of two ways: with its end's own line, or at an entry's line whose writing failed.
-abbrev pub Explains : List (List ℕ) → Known → Known → ℕ → List Entry → Type 0
-Explains words input output status history = IsHistory history × (Ends words input output status history ⊎ Breaks words input output status history)
+-- This history explains the call, which begins with this state: it is a run of the machine from there, and the words, what was read, what was written and the status are as it says. A call ends in one of two ways: with its end's own line, or at an entry's line whose writing failed.
+abbrev pub Explains : List (List ℕ) → State → Known → Known → ℕ → List Entry → Type 0
+Explains words s input output status history =
+    ((end : State) × IsHistoryFrom s history end) × (Ends words s input output status history ⊎ Breaks words s input output status history)
 
 -- ---- what is told
 

@@ -3,6 +3,7 @@ ghost use Rattle.std.specs.Prelude.{◌≡◌, ◌⊎◌, ◌≤◌, ◌↔◌, 
 ghost use Rattle.pg_io.specs.Causes.{Rose};
 ghost use Rattle.pg_io.specs.Outside.{known, PassesLimit, IsWithin, IsBeyond};
 ghost use Rattle.machine.specs.declared.events.Entry.{Entry};
+ghost use Rattle.machine.specs.State.{beginning};
 ghost use Rattle.pgroll_top.specs.Top.{texts, IsForm, HasInput, HasBadLine, IsDone, Explains, TellsRefusal, limit};
 
 use crate::ending::{End, Stop, WRITE_FAULT, close, end_of_fault, end_of_script, end_of_work};
@@ -32,7 +33,7 @@ fn is_form(words: &[String]) -> bool
 
 // Reads the input, does what its lines say, in order, and writes a line for each.
 fn perform<S: Source, K: Sink>(alloc: Global, words: &[String], input: &mut S, out: &mut K) -> u8
-    ensures history { (history : List Entry) × Explains (texts words.now)
+    ensures history { (history : List Entry) × Explains (texts words.now) beginning
         (known S.left S.faults input.old input.new) (known K.held K.faults out.old out.new) result history }
     ensures input_later { S.faults input.old ≤ S.faults input.new }
     ensures out_later { K.faults out.old ≤ K.faults out.new }
@@ -78,7 +79,7 @@ fn perform<S: Source, K: Sink>(alloc: Global, words: &[String], input: &mut S, o
 /// - 8: the input is longer than its limit: `0 control ERROR input`, and no event is done.
 pub fn top<S: Source, K: Sink>(alloc: Global, words: &[String], input: &mut S, out: &mut K) -> u8
     // One history explains the status, what was read and what was written.
-    ensures history { (history : List Entry) × Explains (texts words.now)
+    ensures history { (history : List Entry) × Explains (texts words.now) beginning
         (known S.left S.faults input.old input.new) (known K.held K.faults out.old out.new) result history }
 
     // Why there is which status; want of memory alone needs no cause.

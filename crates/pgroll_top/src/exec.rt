@@ -2,6 +2,7 @@
 ghost use Rattle.std.specs.Prelude.{◌≤◌, List, length};
 ghost use Rattle.pg_io.specs.Outside.{known};
 ghost use Rattle.machine.specs.declared.events.Entry.{Entry};
+ghost use Rattle.machine.specs.State.{beginning};
 ghost use Rattle.pgroll_top.specs.Parts.{Works};
 ghost use Rattle.pgroll_top.specs.Work.{IsHistory};
 
@@ -15,12 +16,12 @@ use std::alloc::Global;
 /// command was refused.
 pub fn work<K: Sink>(alloc: Global, lines: &[Line], out: &mut K) -> Result<bool, Stop>
     requires { length lines.now ≤ 65536 }
-    ensures works { (history : List Entry) × IsHistory history × Works lines.now (known K.held K.faults out.old out.new) result history }
+    ensures works { (history : List Entry) × IsHistory history × Works beginning lines.now (known K.held K.faults out.old out.new) result history }
     ensures later { K.faults out.old ≤ K.faults out.new }
 {
     machine::laws::states_stand();
     mig_json::laws::texts_read_or_fail();
-    sql_small::a_line_reads_or_not();
+    sql_parse::statements_read_or_fail();
     let mut lane = Lane::new(alloc)?;
     for line in lines {
         lane.serve(alloc, line, out)?;

@@ -1,26 +1,26 @@
 //! A lane at work: what the lines of an input ask for is done, one event after another, each with its line of output.
-ghost use Rattle.std.specs.Prelude.{◌≡◌, ◌⊎◌, ◌+◌, ◌<◌, ◌≤◌, ◌^◌, ◌||◌, None, IfOk, codes};
+ghost use Rattle.std.specs.Prelude.{◌≡◌, ◌+◌, ◌<◌, ◌≤◌, ◌^◌, ◌||◌, IfOk};
 ghost use Rattle.pg_io.specs.Outside.{known};
 ghost use Rattle.machine.specs.declared.events.Asked.{Asked};
-ghost use Rattle.machine.specs.declared.events.Event.TheVariants.{Said};
 ghost use Rattle.machine.specs.declared.events.Reading.{Reading};
-ghost use Rattle.machine.specs.declared.events.Reading.TheVariants.{Stmt as Read};
 ghost use Rattle.machine.specs.declared.tasks.Task.TheVariants as Task;
-ghost use Rattle.machine.specs.Follows.{goes_on_completing, goes_on_filling, path_by};
+ghost use Rattle.machine.specs.Follows.{goes_on_completing, goes_on_filling};
 ghost use Rattle.machine.specs.Standing.{IsState};
-ghost use Rattle.machine.specs.Step.{Step};
+ghost use Rattle.machine.specs.State.{beginning};
+ghost use Rattle.roll_core.specs.Store.{meaning};
 ghost use Rattle.report.specs.Lines.{numbered};
-ghost use Rattle.pgroll_top.specs.Parts.{DoesLine, DoesTask, IsReading, Shows, new_lane};
+ghost use Rattle.pgroll_top.specs.Parts.{DoesLine, DoesTask, Shows, new_lane};
 ghost use Rattle.pgroll_top.specs.Work.{AsksFor, ReadsAs, first_path, refuses};
 
 use crate::asking::asked;
 use crate::ending::Stop;
-use report::line_of;
+use crate::saying::answer;
 use machine::Reply;
 use pg_io::{Sink, write_whole};
+use report::line_of;
 use roll_core::{Cmd, Core};
 use script_text::{Line, Order};
-use sql_base::{Code, Copying, List, Name, NoMemory, Stmt};
+use sql_base::{List, Name, NoMemory};
 use std::alloc::Global;
 
 /// The rows of one batch of `\fill`.
@@ -37,17 +37,6 @@ pub struct Lane {
     pub number: u64,
     /// Whether a command was refused.
     pub refused: bool,
-}
-
-// A refusal that names nothing.
-fn bare(code: Code) -> Reply
-    ensures { result ≡ Reply.Error code None None }
-{
-    Reply::Error {
-        code,
-        name: None,
-        key: None,
-    }
 }
 
 fn refuses(reply: &Reply) -> bool
@@ -73,74 +62,11 @@ fn goes_on_completing(reply: &Reply) -> bool
 
 // The path that statements go through at first: the version `public_01_users`.
 fn first_path(alloc: Global) -> Result<List<Name>, NoMemory>
-    ensures { IfOk result (λ path. path ≡ first_path) }
+    ensures { IfOk result (λ path. path ≡ first_path beginning) }
 {
     let mut path = List::new(alloc);
     path.push(Name::from_slice(alloc, b"public_01_users")?)?;
     Ok(path)
-}
-
-// Says a SET. The path is copied first: without memory for it the statement isn't said.
-fn set_path(
-    alloc: Global,
-    core: &mut Core,
-    path: &mut List<Name>,
-    stmt: &Stmt,
-    names: &List<Name>,
-) -> Reply
-    requires { stmt.now ≡ Stmt.SetPath names.now }
-    ensures step { Step core.old (Said path.old (Read stmt.now)) result core.new }
-    ensures path { path.new ≡ path_by path.old (Said path.old (Read stmt.now)) result }
-{
-    let Ok(next) = names.copy(alloc) else {
-        return bare(Code::C53200);
-    };
-    let reply = core.statement(path.as_slice(), stmt);
-    if matches!(reply, Reply::Set) {
-        *path = next;
-    }
-    reply
-}
-
-// What the engine answers to a statement that goes through the path. A SET that is accepted moves the path.
-fn say(alloc: Global, core: &mut Core, path: &mut List<Name>, stmt: &Stmt) -> Reply
-    ensures step { Step core.old (Said path.old (Read stmt.now)) result core.new }
-    ensures path { path.new ≡ path_by path.old (Said path.old (Read stmt.now)) result }
-{
-    match stmt {
-        Stmt::SetPath(names) => set_path(alloc, core, path, stmt, names),
-        _ => core.statement(path.as_slice(), stmt),
-    }
-}
-
-// What the engine answers to what was found in a line.
-fn said(
-    alloc: Global,
-    core: &mut Core,
-    path: &mut List<Name>,
-    found: &Option<Stmt>,
-    line: &[u8],
-) -> Reply
-    requires { IsReading line.now found.now }
-    ensures { (reading : Reading) × ReadsAs line.now reading × Step core.old (Said path.old reading) result core.new
-        × (path.new ≡ path_by path.old (Said path.old reading) result) }
-{
-    match found {
-        Some(stmt) => say(alloc, core, path, stmt),
-        None => bare(Code::C42601),
-    }
-}
-
-// What the engine answers to a line. A line that can't be read for want of memory changes nothing.
-fn answer(alloc: Global, core: &mut Core, path: &mut List<Name>, line: &[u8]) -> Reply
-    ensures { (reading : Reading) × ReadsAs line.now reading × Step core.old (Said path.old reading) result core.new
-        × (path.new ≡ path_by path.old (Said path.old reading) result) }
-{
-    sql_small::a_line_reads_or_not();
-    match sql_small::read(alloc, line) {
-        Ok(found) => said(alloc, core, path, &found, line),
-        Err(_) => bare(Code::C53200),
-    }
 }
 
 // Writes the line of a reply.
@@ -229,7 +155,7 @@ impl Lane {
 
     // Fills batch after batch, up to one that fills nothing.
     fn fill<K: Sink>(&mut self, alloc: Global, out: &mut K) -> Result<(), Stop>
-        requires stands { IsState self.old.core }
+        requires stands { IsState (meaning self.old.core) }
         requires room { self.old.number + 262145 < 2 ^ 64 }
         ensures does { DoesTask self.old self.new (known K.held K.faults out.old out.new) Task.Fill result }
         ensures few { self.new.number ≤ self.old.number + 262145 }
@@ -265,7 +191,7 @@ impl Lane {
 
     // Does a command.
     fn obey<K: Sink>(&mut self, alloc: Global, order: &Order, out: &mut K) -> Result<(), Stop>
-        requires stands { IsState self.old.core }
+        requires stands { IsState (meaning self.old.core) }
         requires room { self.old.number + 262145 < 2 ^ 64 }
         ensures does { DoesLine self.old self.new (known K.held K.faults out.old out.new) (Line.Command order.now) result }
         ensures few { self.new.number ≤ self.old.number + 262145 }
@@ -281,7 +207,7 @@ impl Lane {
 
     /// Does what a line asks for.
     pub fn serve<K: Sink>(&mut self, alloc: Global, line: &Line, out: &mut K) -> Result<(), Stop>
-        requires stands { IsState self.old.core }
+        requires stands { IsState (meaning self.old.core) }
         requires room { self.old.number + 262145 < 2 ^ 64 }
         ensures does { DoesLine self.old self.new (known K.held K.faults out.old out.new) line.now result }
         ensures few { self.new.number ≤ self.old.number + 262145 }

@@ -6,6 +6,8 @@ mod command;
 mod ending;
 mod exec;
 mod lanes;
+mod readings;
+mod saying;
 
 pub use command::top;
 pub use ending::{End, close};

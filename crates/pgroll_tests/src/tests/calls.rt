@@ -44,7 +44,7 @@ pub fn call(
 }
 
 /// Inputs, and what `exec` writes for each.
-const EXEC: [(&str, &str); 8] = [
+const EXEC: [(&str, &str); 10] = [
     (
         "INSERT INTO users (id, name) VALUES (1, 'a');\nSELECT * FROM users;\n",
         "1 main INSERT 0 1\n2 main SELECT 1\n  1|a\n",
@@ -64,6 +64,16 @@ const EXEC: [(&str, &str); 8] = [
     (
         " \\complete\nSELEC\n;\n",
         "1 main ERROR 42601 - -\n2 main ERROR 42601 - -\n3 main ERROR 42601 - -\n",
+    ),
+    // Rows that are asked for, changed and taken away by a condition.
+    (
+        "INSERT INTO users (name, id) VALUES ('a', 1), ('b', 2), ('c', 3)\nUPDATE users SET name = name || name WHERE id > 1\nDELETE FROM users WHERE name = 'bb'\nSELECT name, id + 1 FROM users WHERE id <> 2\n",
+        "1 main INSERT 0 3\n2 main UPDATE 2\n3 main DELETE 1\n4 main SELECT 2\n  a|2\n  cc|4\n",
+    ),
+    // A number that is too wide where one fits, and where none does.
+    (
+        "SELECT 9223372036854775808 FROM users\nSELECT id 9223372036854775808 FROM users\n",
+        "1 main ERROR 22003 - -\n2 main ERROR 42601 - -\n",
     ),
     // Lines that are passed by.
     (
@@ -137,7 +147,7 @@ fn filled(alloc: Global, text: &str, byte: u8, length: usize) -> Result<Vec<u8>,
 /// The byte that fills an input, its length, the status and the output.
 const LONG: [(u8, usize, u8, &str); 4] = [
     (b' ', 4_096, 0, "1 main SELECT 0\n"),
-    (b' ', 4_097, 0, "1 main ERROR 42601 - -\n"),
+    (b' ', 4_097, 0, "1 main ERROR 54000 statement -\n"),
     (b'\n', 65_536, 0, "1 main SELECT 0\n"),
     (b'\n', 65_537, 8, "0 control ERROR input\n"),
 ];
@@ -151,6 +161,26 @@ fn long_inputs_and_lines_are_told(rt: HostRuntime) -> Result<(), Fail> {
         let told = over_memory(rt.alloc(), &words, input)?;
         assert_eq!(rt; told.0, status, "{length}");
         assert_eq!(rt; told.1.as_slice(), wanted.as_bytes(), "{length}");
+    }
+    Ok(())
+}
+
+/// How often a condition is turned round, and what its line comes to.
+const DEEP: [(usize, &str); 2] = [
+    (63, "1 main SELECT 0\n"),
+    (64, "1 main ERROR 54000 depth -\n"),
+];
+
+#[test]
+fn deep_expressions_are_told(rt: HostRuntime) -> Result<(), Fail> {
+    for (often, wanted) in DEEP {
+        let mut input = Vec::from_slice(rt.alloc(), b"SELECT * FROM users WHERE ")?;
+        for _ in 0..often {
+            input.extend_from_slice(b"NOT ")?;
+        }
+        input.extend_from_slice(b"true")?;
+        let told = call(rt.alloc(), &["exec"], &input, &[], &[])?;
+        assert_eq!(rt; told.output.as_slice(), wanted.as_bytes(), "{often}");
     }
     Ok(())
 }

@@ -90,9 +90,10 @@ pub const REFUSED: &[Row] = &[
         Wanted::Shown(&[]),
         NO_TABLE,
     ),
+    // A number for the name, and a text for the key.
     (
         Said::Row("users", &["name", "id"], 1),
-        SYNTAX,
+        Wanted::Refused(Code::C42804, None, None),
         Wanted::Shown(&[]),
         NO_TABLE,
     ),
@@ -187,6 +188,84 @@ pub const LISTED: &[Row] = &[
         Wanted::Refused(Code::C54000, Some("row"), Some(7)),
         MINUS_ROW,
         NO_TABLE,
+    ),
+];
+
+const TWO_LEFT: Wanted = Wanted::Shown(&[(2, "b!"), (3, "c!")]);
+
+const X_LEFT: Wanted = Wanted::Shown(&[(2, "x"), (3, "c!")]);
+
+const LAST: Wanted = Wanted::Shown(&[(3, "c!")]);
+
+const Y_LEFT: Wanted = Wanted::Shown(&[(3, "y")]);
+
+/// One that updates and deletes rows, through both versions. The new column `n` is made of the name.
+pub const CHANGED: &[Row] = &[
+    (
+        Said::Line(
+            PATH,
+            "INSERT INTO users (name, id) VALUES ('a', 1), ('b', 2), ('c', 3)",
+        ),
+        Wanted::Inserted(3),
+        Wanted::Shown(&[(1, "a"), (2, "b"), (3, "c")]),
+        NO_TABLE,
+    ),
+    (
+        Said::Line(PATH, "UPDATE users SET name = name || '!' WHERE id >= 2"),
+        Wanted::Updated(2),
+        Wanted::Shown(&[(1, "a"), (2, "b!"), (3, "c!")]),
+        NO_TABLE,
+    ),
+    (
+        Said::Line(PATH, "DELETE FROM users WHERE name = 'a'"),
+        Wanted::Deleted(1),
+        TWO_LEFT,
+        NO_TABLE,
+    ),
+    (
+        Said::Start,
+        Wanted::Started,
+        TWO_LEFT,
+        Wanted::Shown(&[(2, NULL), (3, NULL)]),
+    ),
+    // A row that is written through the old version is filled.
+    (
+        Said::Line(PATH, "UPDATE users SET name = 'x' WHERE id = 2"),
+        Wanted::Updated(1),
+        X_LEFT,
+        Wanted::Shown(&[(2, "x"), (3, NULL)]),
+    ),
+    // Through the new version the new column alone is written.
+    (
+        Said::Line(NEW, "UPDATE users SET n = 'y' WHERE id = 3"),
+        Wanted::Updated(1),
+        X_LEFT,
+        Wanted::Shown(&[(2, "x"), (3, "y")]),
+    ),
+    (
+        Said::Line(NEW, "DELETE FROM users WHERE n = 'x'"),
+        Wanted::Deleted(1),
+        LAST,
+        Y_LEFT,
+    ),
+    // The key isn't assigned, and the name may not be NULL.
+    (
+        Said::Line(PATH, "UPDATE users SET id = 5"),
+        Wanted::Refused(Code::C0A000, Some("id"), None),
+        LAST,
+        Y_LEFT,
+    ),
+    (
+        Said::Line(PATH, "UPDATE users SET name = NULL"),
+        Wanted::Refused(Code::C23502, Some("users_name_not_null"), Some(3)),
+        LAST,
+        Y_LEFT,
+    ),
+    (
+        Said::Line(PATH, "DELETE FROM users WHERE id = 4"),
+        Wanted::Deleted(0),
+        LAST,
+        Y_LEFT,
     ),
 ];
 
@@ -360,6 +439,7 @@ fn statements_are_answered_and_refused(rt: HostRuntime) -> Result<(), Fail> {
     assert_eq!(rt; first_wrong(rt.alloc(), REFUSED)?, None);
     assert_eq!(rt; first_wrong(rt.alloc(), WRITTEN)?, None);
     assert_eq!(rt; first_wrong(rt.alloc(), LISTED)?, None);
+    assert_eq!(rt; first_wrong(rt.alloc(), CHANGED)?, None);
     Ok(())
 }
 

@@ -3,6 +3,7 @@ use machine::{Asked, Reply};
 use mig_lens::{ColumnDef, Migration, Op, Refusal};
 use roll_core::{Cmd, Core};
 use sql_base::{Code, Expr, Items, List, Name, NoMemory, SqlText, Stmt, Ty, Value};
+use sql_parse::{ParseFault, parse_stmt};
 use sqlite_items::Boxed;
 use std::alloc::Global;
 
@@ -36,6 +37,12 @@ pub enum Said {
 pub enum Wanted {
     /// One row is written.
     Written,
+    /// So many rows are written.
+    Inserted(u32),
+    /// So many rows are updated.
+    Updated(u32),
+    /// So many rows are deleted.
+    Deleted(u32),
     /// The path is set.
     Set,
     /// These rows are shown.
@@ -68,6 +75,21 @@ pub fn names_of(alloc: Global, words: &[&str]) -> Result<Vec<Name>, NoMemory> {
     Ok(names)
 }
 
+/// The longest line here, in bytes.
+const LONGEST: usize = 4_096;
+
+// The statement that a line reads as, or nothing where it reads as none.
+fn statement_of(alloc: Global, line: &str) -> Result<Option<Stmt>, NoMemory> {
+    if line.len() > LONGEST {
+        return Ok(None);
+    }
+    match parse_stmt(alloc, line.as_bytes()) {
+        Ok(stmt) => Ok(Some(stmt)),
+        Err(ParseFault::NoMemory) => Err(NoMemory),
+        Err(_) => Ok(None),
+    }
+}
+
 // The reply to a line, or nothing where it reads as no statement.
 fn line(
     alloc: Global,
@@ -76,7 +98,7 @@ fn line(
     line: &str,
 ) -> Result<Option<Reply>, NoMemory> {
     let path = names_of(alloc, path)?;
-    match &sql_small::read(alloc, line.as_bytes())? {
+    match &statement_of(alloc, line)? {
         Some(stmt) => Ok(Some(core.statement(&path, stmt))),
         None => Ok(None),
     }
@@ -227,6 +249,9 @@ fn are_rows(rows: &[List<Value>], wanted: &[(i64, &str)]) -> bool {
 pub fn is_wanted(reply: &Reply, wanted: Wanted) -> bool {
     match (reply, wanted) {
         (Reply::Insert(count), Wanted::Written) => *count == 1,
+        (Reply::Insert(count), Wanted::Inserted(wanted)) => *count == wanted,
+        (Reply::Update(count), Wanted::Updated(wanted)) => *count == wanted,
+        (Reply::Delete(count), Wanted::Deleted(wanted)) => *count == wanted,
         (Reply::Set, Wanted::Set) => true,
         (Reply::Select(rows), Wanted::Shown(wanted)) => are_rows(rows.as_slice(), wanted),
         (Reply::Error { code, name, key }, Wanted::Refused(wanted, about, at)) => {

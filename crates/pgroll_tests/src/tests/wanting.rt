@@ -2,7 +2,7 @@
 // memory, with all as it was. These tests
 // pass with ample memory too; `rt try --test --fail-alloc N` runs them with the allocation of number N refused in each.
 use crate::tests::calls::{Told, call};
-use crate::tests::engine::{LISTED, MIGRATIONS, NO_TABLE, REFUSED, Row, WRITTEN, shows};
+use crate::tests::engine::{CHANGED, LISTED, MIGRATIONS, NO_TABLE, REFUSED, Row, WRITTEN, shows};
 use crate::tests::statements::{Wanted, comes_to, reply_to};
 use roll_core::Core;
 use sql_base::NoMemory;
@@ -179,6 +179,11 @@ fn written_rows_tell_want_of_memory(rt: HostRuntime) {
 #[test]
 fn listed_items_tell_want_of_memory(rt: HostRuntime) {
     assert!(rt; none_wrong(rt.alloc(), LISTED));
+}
+
+#[test]
+fn changed_rows_tell_want_of_memory(rt: HostRuntime) {
+    assert!(rt; none_wrong(rt.alloc(), CHANGED));
 }
 
 #[test]

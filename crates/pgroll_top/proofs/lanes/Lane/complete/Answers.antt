@@ -3,6 +3,7 @@ use Rattle.std.proofs.lemmas.Result.{err_from_is_err_and}
 use Rattle.machine.specs.declared.events.Event.TheVariants as event
 use Rattle.machine.specs.Follows.{goes_on_completing}
 use Rattle.machine.specs.Laws.{steps_due}
+use Rattle.roll_core.specs.Store.{meaning}
 use Rattle.pgroll_top.specs.declared.lanes.Lane.{Lane}
 use Rattle.pgroll_top.proofs.Advancing.{core_after}
 use Rattle.pgroll_top.proofs.Repeating.{repeat_stopped, repeated, repeats_more}
@@ -17,7 +18,7 @@ returns-in_err-tell-clause-does g c =
 pub returns-in_err-tell-clause-few : goal.returns-in_err-tell-clause-few
 returns-in_err-tell-clause-few g c =
     let counted : c.tell.new.self.number ≡ c.steps.self.number + 1 = ap (λ (lane : Lane). lane.number) c.in_err-tell.ensures.counted in
-    omega (arith, counted, c.steps.invariant.room, (c.completing_comes_to_an_end.ensures.few c.steps.self.core).0)
+    omega (arith, counted, c.steps.invariant.room, (c.completing_comes_to_an_end.ensures.few (meaning c.steps.self.core)).0)
 
 pub returns-then-not-goes_on_completing-clause-does : goal.returns-then-not-goes_on_completing-clause-does
 returns-then-not-goes_on_completing-clause-does g c =
@@ -26,13 +27,13 @@ returns-then-not-goes_on_completing-clause-does g c =
 pub returns-then-not-goes_on_completing-clause-few : goal.returns-then-not-goes_on_completing-clause-few
 returns-then-not-goes_on_completing-clause-few g c =
     let counted : c.tell.new.self.number ≡ c.steps.self.number + 1 = ap (λ (lane : Lane). lane.number) c.in_ok-tell.ensures.counted in
-    omega (arith, counted, c.steps.invariant.room, (c.completing_comes_to_an_end.ensures.few c.steps.self.core).0)
+    omega (arith, counted, c.steps.invariant.room, (c.completing_comes_to_an_end.ensures.few (meaning c.steps.self.core)).0)
 
 pub steps-preserved : goal.steps-preserved
 steps-preserved g c =
     let goes : goes_on_completing c.in_ok-reply.reply ≡ _ = sym c.goes_on_completing.ensures ∙ c.if-not-goes_on_completing.false in
-    let less = c.completing_comes_to_an_end.ensures.fewer c.steps.self.core c.in_ok-reply.reply c.ddl.new.self c.in_ok-reply.ensures.step goes in
-    let fewer = core_after (λ s. steps_due s < steps_due c.steps.self.core) c.steps.self c.tell.new.self c.ddl.new.self c.steps.self.path c.in_ok-reply.reply c.in_ok-tell.ensures.counted less in
+    let less = c.completing_comes_to_an_end.ensures.fewer (meaning c.steps.self.core) c.in_ok-reply.reply (meaning c.ddl.new.self) c.in_ok-reply.ensures.step goes in
+    let fewer = core_after (λ core. steps_due (meaning core) < steps_due (meaning c.steps.self.core)) c.steps.self c.tell.new.self c.ddl.new.self c.steps.self.path c.in_ok-reply.reply c.in_ok-tell.ensures.counted less in
     let counted : c.tell.new.self.number ≡ c.steps.self.number + 1 = ap (λ (lane : Lane). lane.number) c.in_ok-tell.ensures.counted in
     record {
       room = omega (arith, fewer, counted, c.steps.invariant.room);

@@ -4,14 +4,15 @@ use Rattle.machine.specs.declared.events.Entry.{Entry}
 use Rattle.machine.specs.declared.events.Event.TheVariants as event
 use Rattle.machine.specs.Follows.{goes_on_completing}
 use Rattle.machine.specs.Laws.{steps_due}
+use Rattle.roll_core.specs.Store.{meaning}
 use Rattle.pgroll_top.proofs.Repeating.{Repeats}
 use Rattle.pgroll_top.proofs.lanes.Lane.complete.Given as goal
 
 abbrev pub invariant-steps : goal.invariant-steps
 invariant-steps g l = record {
-  room : l.self.number + steps_due l.self.core ≤ l.fn.self.number + 3;
+  room : l.self.number + steps_due (meaning l.self.core) ≤ l.fn.self.number + 3;
   so_far : (entries : List Entry) × Repeats event.Complete goes_on_completing l.fn.self l.self (known g.K.Sink.held g.K.Sink.faults l.fn.out l.out) entries;
 }
 
 abbrev pub decreases-steps : goal.decreases-steps
-decreases-steps g l = steps_due l.self.core
+decreases-steps g l = steps_due (meaning l.self.core)

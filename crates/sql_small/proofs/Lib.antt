@@ -1,4 +1,0 @@
-pub mod SmallForms
-pub mod SmallItems
-pub mod SmallLists
-pub mod SmallReading
