@@ -68,7 +68,7 @@ OldShowsOldHalves = (s t : State) (found : Found) (row other : Kept) → found.s
 abbrev pub PlainStepsAreSteps : Type 0
 PlainStepsAreSteps = (s : State) (event : Event) (r : State × Reply) → IsState s → IsPlainStep s event r → Step s event r.1 r.0
 
--- A step from a lawful state that stands leads to a lawful one: constraints are never broken, and no half is too heavy.
+-- A step from a lawful state that stands leads to a lawful one: no old half breaks a constraint, nor does a new half in a table of which a new column has to be made, and no half is too heavy.
 abbrev pub StepsKeepLaws : Type 0
 StepsKeepLaws = (s : State) (event : Event) (reply : Reply) (t : State) → Step s event reply t → IsState s → IsLawful s → IsLawful t
 

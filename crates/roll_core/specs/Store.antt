@@ -151,7 +151,7 @@ abbrev pub HasFormer : State → Option Former → Type 0
 HasFormer frame None = frame.left ≡ 0
 HasFormer frame (Some former) = (1 ≤ frame.left) × FormerStands frame former
 
--- What holds of the parts of every engine: the frame has no rows of its own, the parts mean a state that stands and in which no constraint is broken, what is kept of the version that is gone is the migration's, and the tables are stored in the forms that the frame says.
+-- What holds of the parts of every engine: the frame has no rows of its own, the parts mean a state that stands and which is lawful, the lenses that are kept of the version that is gone join it to the one that stands, and the tables are stored in the forms that the frame says.
 pub record IsStored (stored : Stored) : Type 0 where
   pub once : stored.frame.tables ≡ []
   pub stands : IsState (meaning stored)

@@ -18,7 +18,7 @@ max_weight = 4096
 abbrev pub max_reply : ℕ
 max_reply = 10000
 
--- the heaviest rows of one statement, both halves of all rows that it leaves written together
+-- the heaviest rows of one statement: both halves of all rows that it leaves written, and their lost weights, together
 abbrev pub max_total : ℕ
 max_total = 100663296
 
