@@ -29,7 +29,11 @@ fn path_set(alloc: Global, s: &State) -> Result<(Reply, State), Stop<Reply>>
     Ok((Reply::Set, same))
 }
 
-fn begun_outcome(alloc: Global, s: &State, begun: &BegunRef<'_>) -> Result<(Reply, State), Stop<Reply>>
+fn begun_outcome(
+    alloc: Global,
+    s: &State,
+    begun: &BegunRef<'_>,
+) -> Result<(Reply, State), Stop<Reply>>
     ensures { Answers (replied (statement.finished s.now (plain.begun begun.now))) result }
 {
     match begun {
@@ -71,7 +75,9 @@ fn line_outcome(
 // ---- commands
 
 // A refused command is answered its refusal.
-fn with_refusal(outcome: Result<(Reply, State), Stop<Refusal>>) -> Result<(Reply, State), Stop<Reply>>
+fn with_refusal(
+    outcome: Result<(Reply, State), Stop<Refusal>>,
+) -> Result<(Reply, State), Stop<Reply>>
     ensures { result ≡ plain.with_refusal outcome }
 {
     match outcome {
