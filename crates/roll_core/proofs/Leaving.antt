@@ -1,5 +1,5 @@
 -- The first step of completing leaves stored rows that mean what the machine leaves.
-use Rattle.std.proofs.Common.{arith, ◌≡◌, ◌≤◌, ◌<◌, ◌∙◌, ℕ, zero, suc, ℤ, List, [], ◌∷◌, Bool, true, false, ◌&&◌, ◌||◌, ◌==◌, Option, Some, None, Result, Ok, Err, inl, inr, ◌⊎◌, find, is_none, is_some, nat_eq, nat_lt, map, filter, cond, ap, refl, sym, subst, length, option_map, option_and_then, if◌then◌else◌}
+use Rattle.std.proofs.Common.{arith, ◌≡◌, ◌≤◌, ◌<◌, ◌∙◌, ℕ, zero, suc, ℤ, List, [], ◌∷◌, ◌++◌, take, drop, Bool, true, false, ◌&&◌, ◌||◌, ◌==◌, Option, Some, None, Result, Ok, Err, inl, inr, ◌⊎◌, find, is_none, is_some, nat_eq, nat_lt, map, filter, cond, ap, refl, sym, subst, length, option_map, option_and_then, if◌then◌else◌}
 use Rattle.std.specs.Prelude.{slice_get}
 use Rattle.std.specs.List.{AllByRecursion, cons_option, filter_map, list_all, list_any}
 use Rattle.std.specs.Option.{option_map_or, option_or}
@@ -344,6 +344,14 @@ finish_refused frame tables refusal stands k a h =
     let s = meant frame tables in
     let active = is_active frame.mode a in
     complete_is s active.name active.schema active.fates k active.is ∙ ap (λ may. without may (stepped 1 (completed s active.name active.schema active.fates))) (may_same frame tables stands ∙ h)
+
+-- A list that was written through a slice of the whole of it.
+pub written_back : {X : Type 0} (old new : List X) (len : ℕ) → len ≡ length new → length new ≡ length old → take len (new ++ drop (length new) old) ≡ new
+written_back [] [] len a b = rw a refl
+written_back [] (y ∷ new) len a b = absurd (omega (arith, b))
+written_back (x ∷ old) [] len a b = absurd (omega (arith, b))
+written_back (x ∷ old) (y ∷ new) zero a b = absurd (omega (arith, a))
+written_back (x ∷ old) (y ∷ new) (suc len) a b = ap (λ rest. y ∷ rest) (written_back old new len (omega (arith, a)) (omega (arith, b)))
 
 -- What a call of the step leaves.
 pub record Finishes (frame : State) (tables : List StoredTable) (new : Stored) : Type 0 where

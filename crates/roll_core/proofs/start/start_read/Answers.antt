@@ -13,18 +13,13 @@ returns-in-Err-clause-goes c former =
     let s = meant c.args.frame.now (map seen c.args.tables.now.items) in
     stops (parts c.args.frame.now former c.args.tables.now.items) (start_read s c.args.m.now) (startable s c.args.m.now) c.in-Err.stop (subst (λ (ts : List StoredTable). Answers (startable (meant c.args.frame.now (map seen ts)) c.args.m.now) (Err c.in-Err.stop)) c.deref.ensures.value c.in-Err.ensures) (start_refused s c.args.m.now)
 
-pub returns-clause-goes : goal.returns-clause-goes
-returns-clause-goes c former =
+pub returns : goal.returns
+returns c =
     let law : BeginningHolds = record { shown = c.begun_rows_hold.ensures; left = c.stored_rows_are_paired.ensures.begun; join = c.planned_lenses_join.ensures.join; schemas = c.planned_schemas_are_well_formed.ensures } in
     let tables = map seen c.args.tables.now.items in
     let new = map seen c.begin.new.tables.items in
     let leaves : Leaves c.args.frame.now tables c.args.m.now c.in-Ok.plan c.begin.new.frame new = record { by = subst (λ (ts : List StoredTable). startable (meant c.args.frame.now (map seen ts)) c.args.m.now ≡ Ok c.in-Ok.plan) c.deref.ensures.value c.in-Ok.ensures; begun = c.in_ok-begin.ensures.frame; stored = c.in_ok-begin.ensures.tables } in
-    start_goes law c.args.frame.now tables c.args.m.now c.in-Ok.plan c.begin.new.frame new c.in_ok-copy.field-0 c.requires leaves c.in_ok-copy.ensures former
-
-pub returns-clause-kept : goal.returns-clause-kept
-returns-clause-kept c former kept =
-    let law : BeginningHolds = record { shown = c.begun_rows_hold.ensures; left = c.stored_rows_are_paired.ensures.begun; join = c.planned_lenses_join.ensures.join; schemas = c.planned_schemas_are_well_formed.ensures } in
-    let tables = map seen c.args.tables.now.items in
-    let new = map seen c.begin.new.tables.items in
-    let leaves : Leaves c.args.frame.now tables c.args.m.now c.in-Ok.plan c.begin.new.frame new = record { by = subst (λ (ts : List StoredTable). startable (meant c.args.frame.now (map seen ts)) c.args.m.now ≡ Ok c.in-Ok.plan) c.deref.ensures.value c.in-Ok.ensures; begun = c.in_ok-begin.ensures.frame; stored = c.in_ok-begin.ensures.tables } in
-    start_keeps law c.args.frame.now tables c.args.m.now c.in-Ok.plan c.begin.new.frame new c.requires leaves former kept
+    record {
+      goes = start_goes law c.args.frame.now tables c.args.m.now c.in-Ok.plan c.begin.new.frame new c.in_ok-copy.field-0 c.requires leaves c.in_ok-copy.ensures;
+      kept = start_keeps law c.args.frame.now tables c.args.m.now c.in-Ok.plan c.begin.new.frame new c.requires leaves;
+    }
