@@ -1,12 +1,10 @@
 -- Changes that are put into stored rows are the changes of the rows that these mean.
-use Rattle.std.proofs.Common.{arith, ◌≡◌, ◌≤◌, ◌∙◌, ◌+◌, ℕ, ℤ, List, [], ◌∷◌, ap, refl, sym, subst, length, map, int_cmp, not}
+use Rattle.std.proofs.Common.{arith, ◌≡◌, ◌≤◌, ◌∙◌, ◌+◌, ℕ, List, [], ◌∷◌, ap, refl, sym, subst, length, map}
 use Rattle.std.specs.FinMap as finite
 use Rattle.std.specs.Cmp.{int_cmp_total}
 use Rattle.std.specs.List.{AllByRecursion}
-use Rattle.sql_base.specs.declared.values.Value.{Value}
 use Rattle.row_rules.specs.declared.kinds.Change.{Change}
 use Rattle.row_rules.specs.declared.kinds.Change.TheVariants.{Put, Remove}
-use Rattle.row_rules.specs.declared.kinds.Kept.{Kept}
 use Rattle.row_rules.specs.Changes.{after_change, after_changes}
 use Rattle.machine.specs.Sites.{OfPut}
 use Rattle.row_store.specs.Laws.{RemovedIsLeftOut}

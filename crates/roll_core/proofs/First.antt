@@ -1,5 +1,5 @@
 -- What an engine stores at first.
-use Rattle.std.proofs.Common.{arith, ◌≡◌, ◌∙◌, ℕ, List, [], ◌∷◌, ◌++◌, Option, None, ap, refl, sym, subst, int_cmp, length, map}
+use Rattle.std.proofs.Common.{arith, ◌≡◌, ◌∙◌, List, [], ◌∷◌, ◌++◌, None, ap, refl, sym, int_cmp, length}
 use Rattle.std.specs.FinMap as finite
 use Rattle.sql_base.specs.declared.values.Value.{Value}
 use Rattle.machine.specs.declared.states.State.{State}
@@ -12,9 +12,6 @@ use Rattle.roll_core.specs.Seen.{parts, seen}
 use Rattle.roll_core.specs.Store as store
 use Rattle.roll_core.specs.Store.{IsStored, StoredRow, Stored, meaning}
 use Rattle.row_store.specs.Stored.{Rows}
-use Rattle.roll_core.proofs.Made.{changes_placed as cited_made}
-use Rattle.roll_core.proofs.Fitting.{storable as cited_fitting}
-use Rattle.roll_core.proofs.Changed.{changes_meant as cited_changed}
 
 none_of : {X : Type 0} (xs : List X) → length xs ≡ 0 → xs ≡ []
 none_of [] e = refl

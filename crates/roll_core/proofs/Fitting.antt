@@ -15,8 +15,7 @@ use Rattle.row_rules.specs.declared.kinds.Halves.{Halves}
 use Rattle.row_rules.specs.declared.kinds.Kept.{Kept}
 use Rattle.row_rules.specs.Site.{Beside, number_of, shape_of}
 use Rattle.row_store.specs.Stored.{Rows}
-use Rattle.machine.specs.declared.states.Mode.{Mode}
-use Rattle.machine.specs.declared.states.Mode.TheVariants.{Calm, Both}
+use Rattle.machine.specs.declared.states.Mode.TheVariants.{Calm}
 use Rattle.machine.specs.declared.states.State.{State}
 use Rattle.machine.specs.Sites.{HalvesAgree, PairStands, SiteRow, TableStands, may_miss_beside, new_table_by, table_by}
 use Rattle.machine.specs.Standing.{HalfStands, NewStands}
@@ -26,10 +25,10 @@ use Rattle.phase_steps.specs.Laws.{FilledBefore}
 use Rattle.trigger_pair.specs.declared.pairs.Pair.{Pair}
 use Rattle.roll_core.specs.declared.forms.Form.{Form}
 use Rattle.roll_core.specs.declared.forms.Form.TheVariants.{Own, Paired, Left, Trimmed}
-use Rattle.roll_core.specs.Running.{FormSuits, LeftBy, PairedBy}
+use Rattle.roll_core.specs.Running.{FormSuits, LeftBy}
 use Rattle.roll_core.specs.Store.{IsStoredRow, StoredRow, kept, lost_columns_by, pair_over}
 use Rattle.roll_core.proofs.Made.{HasNew}
-use Rattle.roll_core.proofs.Storing.{Alone, AloneFits, FormStands, Storable, Together, lost_over}
+use Rattle.roll_core.proofs.Storing.{AloneFits, FormStands, Storable, Together, lost_over}
 
 -- ---- what is stored under a key
 
@@ -119,7 +118,7 @@ calm_side : (s : State) → s.mode ≡ Calm → (side : Side) (number : ℕ) (ta
 calm_side s m Old number table e = refl
 calm_side s m New number table e = let none : table_on s New number ≡ None = ap (λ mode. option_and_then (λ schema. table_numbered schema number) (newer_schema mode)) m in cc
 
-calm_shared : (s : State) (number : ℕ) → s.mode ≡ Calm → shared s number ≡ None
+pub calm_shared : (s : State) (number : ℕ) → s.mode ≡ Calm → shared s number ≡ None
 calm_shared s number m = ap (λ mode. option_and_then (λ old. option_and_then (λ new. option_map {U = Shared} (λ lens. record { old = old; new = new; lens = lens }) (lens_between mode number)) (option_and_then (λ schema. table_numbered schema number) (newer_schema mode))) (table_on s Old number)) m ∙ by_table (table_on s Old number)
   where
     by_table : (o : Option Table) → option_and_then {U = Shared} (λ (old : Table). None) o ≡ None

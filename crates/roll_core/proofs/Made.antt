@@ -1,5 +1,5 @@
 -- The rows that a job puts: their keys, their lost weights, and that both halves are there where both versions have the table.
-use Rattle.std.proofs.Common.{◌≡◌, ◌∙◌, ℕ, ℤ, List, [], ◌∷◌, Bool, true, false, Option, Some, None, Result, Ok, Err, is_some, is_none, if◌then◌else◌, map, ap, refl, sym, subst, cond}
+use Rattle.std.proofs.Common.{◌≡◌, ◌∙◌, ℕ, ℤ, List, [], ◌∷◌, Bool, true, false, Option, Some, None, Result, Ok, Err, is_some, if◌then◌else◌, map, ap, refl, sym, subst}
 use Rattle.std.specs.List.{AllByRecursion as Each, filter_map}
 use Rattle.std.specs.Option.{option_map_or}
 use Rattle.sql_base.specs.Laws.{and_then_ok, ok_same}
@@ -9,7 +9,7 @@ use Rattle.row_rules.specs.Accept.{sound, wrong}
 use Rattle.row_rules.specs.Causes.{value_cause}
 use Rattle.row_rules.specs.Changes.{altered, altered_halves, altered_row, changes, filled_row, matching, new_row, passes, put_all, remade, row_passed}
 use Rattle.row_rules.specs.Outcome.{map_fault, without}
-use Rattle.row_rules.specs.Site.{Beside, Site, filled, filled_beside, half, half_beside, halves_on, key_of, other, other_half, shape_of, shown, touched, touched_by}
+use Rattle.row_rules.specs.Site.{Beside, Site, half, half_beside, halves_on, key_of, other, other_half, shape_of, shown, touched, touched_by}
 use Rattle.row_rules.specs.Words.{Expr, New, Old, Side}
 use Rattle.row_rules.specs.declared.kinds.Cause.{Cause}
 use Rattle.row_rules.specs.declared.kinds.Change.{Change}

@@ -1,12 +1,12 @@
 -- Stored rows, and the rows that they mean.
-use Rattle.std.proofs.Common.{Bor, ◌≡◌, ◌∙◌, ℤ, List, [], ◌∷◌, ◌++◌, Bool, true, false, ◌||◌, not, Option, Some, None, is_some, int_cmp, int_eq, Ordering, Less, Equal, Greater, ap, refl, sym, subst, length, map, filter, cond}
+use Rattle.std.proofs.Common.{Bor, ◌≡◌, ◌∙◌, ℤ, List, [], ◌∷◌, Bool, true, false, ◌||◌, not, Option, Some, None, is_some, int_cmp, int_eq, Ordering, Less, Equal, Greater, ap, refl, sym, length, map, filter, cond}
 use Rattle.std.specs.FinMap as finite
 use Rattle.std.specs.FinMap.{put}
 use Rattle.std.specs.FinMap.Entries.{by_order as picked, where_key}
 use Rattle.std.specs.Cmp.{int_eq_equiv}
 use Rattle.std.specs.List.{AllByRecursion, list_any}
 use Rattle.std.specs.Option.{option_copied}
-use Rattle.std.specs.Ordering.{eq_by_cmp, is_eq, match_ordering}
+use Rattle.std.specs.Ordering.{eq_by_cmp, match_ordering}
 use Rattle.std.proofs.lemmas.List.{length-map}
 use Rattle.sql_base.specs.declared.values.Value.{Value}
 use Rattle.row_rules.specs.declared.kinds.Kept.{Kept}
@@ -24,9 +24,6 @@ any_meant form key (row ∷ rows) = ap (λ rest. int_eq key row.0 || rest) (any_
 -- A row of this key is stored exactly where one is meant.
 pub has_key-stored : (form : Form) (key : ℤ) (rows : Rows) → is_some (finite.get rows key) ≡ list_any (λ row. int_eq key row.key) (map (kept form) (finite.entries rows))
 has_key-stored form key rows = finite.contains_key-keys rows key ∙ any_meant form key (finite.entries rows)
-
-
-
 
 copied_some : (got : Option (Bor (List Value))) → is_some (option_copied got) ≡ is_some got
 copied_some None = refl

@@ -1,6 +1,6 @@
 -- The halves of what is stored are the halves that it is made of.
-use Rattle.std.proofs.Common.{◌≡◌, ◌∙◌, ◌<◌, ℕ, zero, suc, ℤ, ◌+◌, List, [], ◌∷◌, ◌++◌, Bool, true, false, ◌&&◌, if◌then◌else◌, Option, Some, None, ap, refl, sym, subst, length, map, take, append_assoc, unwrap_or, arith, not, inl, zero-add}
-use Rattle.std.specs.Prelude.{slice_index_or, filter, sum_by}
+use Rattle.std.proofs.Common.{◌≡◌, ◌∙◌, ◌<◌, ℕ, zero, suc, ℤ, ◌+◌, List, [], ◌∷◌, ◌++◌, true, false, if◌then◌else◌, Option, Some, None, ap, refl, sym, subst, length, map, take, append_assoc, unwrap_or, arith, not, inl, zero-add}
+use Rattle.std.specs.Prelude.{slice_index_or, filter}
 use Rattle.std.specs.List.{enumerate_from, zip}
 use Rattle.std.proofs.lemmas.List.{take_at}
 use Rattle.std.proofs.lemmas.List.Sums.{sum_by-cons}
@@ -16,11 +16,11 @@ use Rattle.row_rules.specs.declared.kinds.Halves.{Halves}
 use Rattle.row_rules.specs.declared.kinds.Kept.{Kept}
 use Rattle.machine.specs.Migrate.{lost_columns_in, lost_value, lost_weight}
 use Rattle.trigger_pair.specs.declared.pairs.Pair.{Pair}
-use Rattle.trigger_pair.specs.Laws.{Agree, Holds, IsPair, PairsAreLong, StoredRowsHold}
+use Rattle.trigger_pair.specs.Laws.{Agree, IsPair, PairsAreLong, StoredRowsHold}
 use Rattle.trigger_pair.specs.Rows.{IsFilledRow}
 use Rattle.trigger_pair.specs.Stored.{is_marked, mark_value, new_half, new_view, old_view, shadow_values, stored_row}
 use Rattle.phase_steps.specs.Laws.{FilledBefore, LeftRowsAreFilled, LeftRowsKeep, LeftRowsShow, TrimmingKeepsView, TrimmingLeavesTrimmed}
-use Rattle.phase_steps.specs.Rows.{left_row, left_value, left_values, trimmed, trimmed_view}
+use Rattle.phase_steps.specs.Rows.{left_row, left_value, trimmed, trimmed_view}
 use Rattle.roll_core.specs.declared.forms.Form.{Form}
 use Rattle.roll_core.specs.declared.forms.Form.TheVariants.{Own, Paired, Left, Trimmed}
 use Rattle.roll_core.specs.Store.{IsStoredRow, kept, lost_of, stored_values}

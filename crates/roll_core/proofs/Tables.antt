@@ -1,11 +1,14 @@
 -- Stored tables, and the tables of the state that they mean.
-use Rattle.std.proofs.Common.{arith, ◌≡◌, ◌≤◌, ◌<◌, ◌==◌, ◌∙◌, ℕ, zero, suc, List, [], ◌∷◌, Bool, true, false, ◌&&◌, ◌||◌, Option, Some, None, find, if◌then◌else◌, length, map, nat_eq, ap, refl, sym, subst, option_map, option_and_then, le_of_eq, le_of_lt, lt_of_le_of_lt}
+use Rattle.std.proofs.Common.{arith, Result, Ok, Err, OnErr, ◌+◌, ◌≡◌, ◌≤◌, ◌<◌, ◌==◌, ◌∙◌, ℕ, zero, suc, List, [], ◌∷◌, Bool, true, false, Option, Some, find, if◌then◌else◌, length, map, nat_eq, ap, refl, sym, subst, option_map, option_and_then, le_of_eq}
 use Rattle.std.specs.Prelude.{slice_get, slice_index_or, slice_set, sum_by}
 use Rattle.std.specs.List.{AllByRecursion, list_all, list_any}
 use Rattle.std.specs.Option.{option_map_or}
+use Rattle.std.specs.FinMap as finite
 use Rattle.std.proofs.lemmas.Bool.Decides.{nat_tests}
+use Rattle.std.proofs.lemmas.List.{length-map}
+use Rattle.std.proofs.lemmas.List.Sums.{sum_by-cons}
+use Rattle.row_rules.specs.declared.kinds.Change.{Change}
 use Rattle.sql_base.specs.Laws.{both, some_same}
-use Rattle.sql_base.specs.declared.shapes.Schema.{Schema}
 use Rattle.mig_lens.specs.Plan.{Table, table_numbered}
 use Rattle.row_rules.specs.declared.kinds.Kept.{Kept}
 use Rattle.row_rules.specs.Site.{Site, number_of}
@@ -13,14 +16,14 @@ use Rattle.machine.specs.declared.states.Mode.{Mode}
 use Rattle.machine.specs.declared.states.Mode.TheVariants.{Calm, Both}
 use Rattle.machine.specs.declared.states.State.{State}
 use Rattle.machine.specs.Migrate.{numbers_of}
-use Rattle.machine.specs.Sites.{TableStands}
-use Rattle.machine.specs.Standing.{IsState, ModeStands, NumbersAscend, has_all}
-use Rattle.machine.specs.State.{Found, newer_schema, rows_of, site_of, table_on, with_rows}
+use Rattle.machine.specs.Standing.{IsState, ModeStands, NumbersAscend}
+use Rattle.machine.specs.State.{newer_schema, row_count, rows_of, table_on, with_rows}
 use Rattle.machine.specs.Words.{New, Old, Side}
 use Rattle.roll_core.specs.declared.store.StoredTable.{StoredTable as OwnTable}
-use Rattle.roll_core.specs.Running.{IsSite, Runs, meant, numbers_in}
-use Rattle.roll_core.specs.Seen.{seen}
-use Rattle.roll_core.specs.Store.{StoredTable, rows_meant, table_meant}
+use Rattle.roll_core.specs.Running.{IsSite, Runs, meant, numbers_in, stored_count}
+use Rattle.roll_core.specs.Changing.{changed, with_changes}
+use Rattle.roll_core.specs.Seen.{row_count as own_count, seen}
+use Rattle.roll_core.specs.Store.{StoredTable, kept, rows_meant, table_meant}
 
 -- ---- elements
 
@@ -123,3 +126,99 @@ site_there frame tables site runs there =
     let on = on_meant frame tables found.side number ∙ there.2.on_side in
     let is = subst (λ ns. list_any (nat_eq number) ns ≡ true) (numbers_of-meant frame tables) (side_among (meant frame tables) runs.stands found.side number found.table on) in
     subst (λ (s : Site). list_any (nat_eq (number_of s.here)) (numbers_in tables) ≡ true) (sym there.1) is
+
+-- ---- another table in its place
+
+pub on_err : {X E : Type 0} (r : Result X E) (P : Type 0) → P → OnErr r P
+on_err (Ok x) P p = tt
+on_err (Err e) P p = p
+
+set_got : {X : Type 0} (xs : List X) (at : ℕ) (x : X) → slice_get xs at ≡ Some x → slice_set xs at x ≡ xs
+set_got [] at x e = cc
+set_got (first ∷ xs) zero x e = ap (λ y. y ∷ xs) (sym (some_same first x e))
+set_got (first ∷ xs) (suc at) x e = ap (λ ys. first ∷ ys) (set_got xs at x e)
+
+pub set_mapped : {X Y : Type 0} (f : X → Y) (xs : List X) (at : ℕ) (x : X) → map f (slice_set xs at x) ≡ slice_set (map f xs) at (f x)
+set_mapped f [] at x = refl
+set_mapped f (first ∷ xs) zero x = refl
+set_mapped f (first ∷ xs) (suc at) x = ap (λ ys. f first ∷ ys) (set_mapped f xs at x)
+
+pub set_same : (tables : List OwnTable) (at : ℕ) (d table new : OwnTable) → at < length tables → table ≡ slice_index_or tables at d → seen new ≡ seen table → map seen (slice_set tables at new) ≡ map seen tables
+set_same tables at d table new h e is =
+    let got = got_mapped seen tables at table (is_got tables at d h ∙ ap Some (sym e)) in
+    set_mapped seen tables at new ∙ ap (slice_set (map seen tables) at) is ∙ set_got (map seen tables) at (seen table) got
+
+pub set_changed : (tables : List OwnTable) (at : ℕ) (d table new : OwnTable) (changes : List Change) → at < length tables → table ≡ slice_index_or tables at d → seen new ≡ changed changes table → Some (map seen (slice_set tables at new)) ≡ with_changes at changes tables
+set_changed tables at d table new changes h e is =
+    let got : slice_get tables at ≡ Some table = is_got tables at d h ∙ ap Some (sym e) in
+    ap Some (set_mapped seen tables at new ∙ ap (slice_set (map seen tables) at) is) ∙ ap (option_map (λ table. slice_set (map seen tables) at (changed changes table))) (sym got)
+
+-- a table whose number is another one is as it was
+abbrev replaced : ℕ → List Kept → ℕ × List Kept → ℕ × List Kept
+replaced number rows table = if table.0 == number then (number, rows) else table
+
+other_table : (number : ℕ) (rows : List Kept) (table : StoredTable) → (table.number == number) ≡ false → replaced number rows (table_meant table) ≡ table_meant table
+other_table number rows table e = ap (λ b. if◌then◌else◌ {A = ℕ × List Kept} b (number, rows) (table_meant table)) e
+
+-- tables behind that of a number have others
+absent : (number : ℕ) (rows : List Kept) (first : ℕ) (tables : List StoredTable) → NumbersAscend (first ∷ numbers_in tables) → number ≤ first → map (replaced number rows) (map table_meant tables) ≡ map table_meant tables
+absent number rows first [] h le = refl
+absent number rows first (table ∷ tables) h le =
+    let above = h.0 in
+    let differ : (table.number == number) ≡ false = grind (arith, nat_tests) in
+    let there = absent number rows table.number tables h.1 (omega (arith, above, le)) in
+    ap (λ t. t ∷ map (replaced number rows) (map table_meant tables)) (other_table number rows table differ) ∙ ap (λ ts. table_meant table ∷ ts) there
+
+with_set : (number : ℕ) (rows : List Kept) (tables : List StoredTable) (at : ℕ) (table new : StoredTable) → NumbersAscend (numbers_in tables) → slice_get tables at ≡ Some table → table.number ≡ number → table_meant new ≡ (number, rows) → map (replaced number rows) (map table_meant tables) ≡ map table_meant (slice_set tables at new)
+with_set number rows [] at table new a e n is = cc
+with_set number rows (first ∷ tables) zero table new a e n is =
+    let same : first ≡ table = cc in
+    let numbered : first.number ≡ number = ap (λ (t : StoredTable). t.number) same ∙ n in
+    let test : (first.number == number) ≡ true = grind (arith, nat_tests) in
+    let here : replaced number rows (table_meant first) ≡ (number, rows) = ap (λ b. if◌then◌else◌ {A = ℕ × List Kept} b (number, rows) (table_meant first)) test in
+    ap (λ t. t ∷ map (replaced number rows) (map table_meant tables)) (here ∙ sym is) ∙ ap (λ ts. table_meant new ∷ ts) (absent number rows first.number tables a (le_of_eq (sym numbered)))
+with_set number rows (first ∷ tables) (suc at) table new a e n is =
+    let less = behind first.number tables at table a e in
+    let differ : (first.number == number) ≡ false = grind (arith, nat_tests) in
+    ap (λ t. t ∷ map (replaced number rows) (map table_meant tables)) (other_table number rows first differ) ∙ ap (λ ts. table_meant first ∷ ts) (with_set number rows tables at table new (rest_ascends first.number (numbers_in tables) a) e n is)
+
+-- The state with other rows in a table is that of the tables with another one in its place.
+pub with_rows-set : (frame : State) (tables : List StoredTable) (at number : ℕ) (rows : List Kept) (table new : StoredTable) → IsState (meant frame tables) → IsRead tables at number table → table_meant new ≡ (number, rows) → with_rows (meant frame tables) number rows ≡ meant frame (slice_set tables at new)
+with_rows-set frame tables at number rows table new stands r is =
+    ap (λ (ts : List (ℕ × List Kept)). record frame { tables = ts }) (with_set number rows tables at table new (ascend frame tables stands) r.here r.numbered is)
+
+-- ---- the number of rows
+
+count_meant : (tables : List StoredTable) → sum_by (λ table. length table.1) (map table_meant tables) ≡ stored_count tables
+count_meant [] = refl
+count_meant (table ∷ tables) =
+    let one = sum_by-cons (λ (table : ℕ × List Kept). length table.1) (table_meant table) (map table_meant tables) in
+    let other = sum_by-cons (λ (table : StoredTable). length table.rows) table tables in
+    let same = length-map table.rows (kept table.form) in
+    let there = count_meant tables in
+    omega (arith, one, other, same, there)
+
+pub row_count-meant : (frame : State) (tables : List StoredTable) → row_count (meant frame tables) ≡ stored_count tables
+row_count-meant frame tables = count_meant tables
+
+pub count_seen : (tables : List OwnTable) → stored_count (map seen tables) ≡ own_count tables
+count_seen [] = refl
+count_seen (table ∷ tables) =
+    let one = sum_by-cons (λ (table : StoredTable). length table.rows) (seen table) (map seen tables) in
+    let other = sum_by-cons (λ (table : OwnTable). finite.len table.rows.rows) table tables in
+    let same = finite.len-entries table.rows.rows in
+    let there = count_seen tables in
+    omega (arith, one, other, same, there)
+
+pub count_set : (tables : List StoredTable) (at : ℕ) (table new : StoredTable) → slice_get tables at ≡ Some table → stored_count (slice_set tables at new) + length table.rows ≡ stored_count tables + length new.rows
+count_set [] at table new e = cc
+count_set (first ∷ tables) zero table new e =
+    let same = ap (λ (t : StoredTable). length t.rows) (some_same first table e) in
+    let one = sum_by-cons (λ (table : StoredTable). length table.rows) first tables in
+    let other = sum_by-cons (λ (table : StoredTable). length table.rows) new tables in
+    omega (arith, same, one, other)
+count_set (first ∷ tables) (suc at) table new e =
+    let there = count_set tables at table new e in
+    let one = sum_by-cons (λ (table : StoredTable). length table.rows) first tables in
+    let other = sum_by-cons (λ (table : StoredTable). length table.rows) first (slice_set tables at new) in
+    omega (arith, there, one, other)

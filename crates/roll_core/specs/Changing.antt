@@ -1,5 +1,6 @@
 -- What changes come to in stored rows.
-use Rattle.std.specs.Prelude.{ℤ, List, [], ◌∷◌, map}
+use Rattle.std.specs.Prelude.{ℕ, List, [], ◌∷◌, Option, map, slice_get, slice_set}
+use Rattle.std.specs.Option.{option_map}
 use Rattle.std.specs.FinMap as finite
 use Rattle.row_rules.specs.declared.kinds.Change.{Change}
 use Rattle.row_rules.specs.declared.kinds.Change.TheVariants.{Put, Remove}
@@ -8,6 +9,7 @@ use Rattle.roll_core.specs.declared.changing.StoredChange.{StoredChange}
 use Rattle.roll_core.specs.declared.changing.StoredChange.TheVariants as stored
 use Rattle.roll_core.specs.declared.forms.Form.{Form}
 use Rattle.roll_core.specs.declared.store.StoredTable.{StoredTable}
+use Rattle.roll_core.specs.Seen.{seen}
 use Rattle.roll_core.specs.Store as store
 use Rattle.roll_core.specs.Store.{stored_values}
 
@@ -31,3 +33,7 @@ rows_after form changes rows = put_all (map (stored_change form rows) changes) r
 -- The table with these changes.
 abbrev pub changed : List Change → StoredTable → store.StoredTable
 changed changes table = record { number = table.number; form = table.form; rows = finite.entries (rows_after table.form changes table.rows.rows) }
+
+-- The tables with these changes in the one at a place, where there is one.
+abbrev pub with_changes : ℕ → List Change → List StoredTable → Option (List store.StoredTable)
+with_changes at changes tables = option_map (λ table. slice_set (map seen tables) at (changed changes table)) (slice_get tables at)

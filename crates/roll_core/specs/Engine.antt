@@ -1,5 +1,5 @@
 -- How the engine's calls answer.
-use Rattle.std.specs.Prelude.{◌≡◌, ℕ, [], ◌∷◌, None}
+use Rattle.std.specs.Prelude.{[], ◌∷◌, None}
 use Rattle.machine.specs.declared.events.Event.{Event}
 use Rattle.machine.specs.declared.events.Event.TheVariants as event
 use Rattle.machine.specs.State.{beginning}

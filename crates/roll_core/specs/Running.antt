@@ -1,6 +1,11 @@
 -- What the engine's own steps are promised, of the frame and the tables alone, and how they answer.
-use Rattle.std.specs.Prelude.{◌≡◌, ℕ, List, Some, Result, Ok, Err, map}
+use Rattle.std.specs.Prelude.{◌≡◌, ℕ, ◌+◌, Bool, true, false, List, Some, Result, Ok, Err, None, Option, if◌then◌else◌, length, map, nat_lt, sum_by}
+use Rattle.std.specs.Option.{option_map, option_or}
+use Rattle.row_rules.specs.Changes.{refused_together}
 use Rattle.std.specs.List.{AllByRecursion}
+use Rattle.row_rules.specs.declared.kinds.Change.{Change}
+use Rattle.row_rules.specs.declared.kinds.Job.{Job}
+use Rattle.row_rules.specs.declared.kinds.Job.TheVariants as job
 use Rattle.row_rules.specs.declared.stops.Stop.{Stop}
 use Rattle.row_rules.specs.declared.stops.Stop.TheVariants.{Because, NoMemory}
 use Rattle.row_rules.specs.Site.{Site, shape_of}
@@ -9,16 +14,17 @@ use Rattle.machine.specs.declared.events.Reply.{Reply}
 use Rattle.machine.specs.declared.states.Mode.TheVariants.{Calm}
 use Rattle.machine.specs.declared.states.State.{State}
 use Rattle.machine.specs.Done.{Done, Outcome}
-
 use Rattle.machine.specs.Standing.{IsState}
+use Rattle.machine.specs.Laws.{leaves_all}
 use Rattle.machine.specs.Sites.{TableStands}
 use Rattle.machine.specs.State.{Found, Shared, lost_columns_of, shared, site_of, table_on}
+use Rattle.machine.specs.Statement.{error_reply, max_rows, no_memory, too_many_rows}
 use Rattle.machine.specs.Words.{Old}
 use Rattle.trigger_pair.specs.declared.pairs.Pair.{Pair}
 use Rattle.trigger_pair.specs.Laws.{IsPair}
 use Rattle.roll_core.specs.declared.forms.Form.{Form}
 use Rattle.roll_core.specs.declared.forms.Form.TheVariants.{Own, Paired, Left, Trimmed}
-use Rattle.roll_core.specs.Store.{IsStoredRow, StoredTable, lost_columns_by, pair_over, table_meant}
+use Rattle.roll_core.specs.Store.{IsStoredRow, StoredTable, lost_columns_by, pair_over, rows_meant, table_meant}
 
 -- The state that a frame and tables mean.
 abbrev pub meant : State → List StoredTable → State
@@ -65,12 +71,42 @@ pub record Runs (frame : State) (tables : List StoredTable) : Type 0 where
 abbrev pub SameForms : List StoredTable → List StoredTable → Type 0
 SameForms old new = map {B = ℕ × Form} (λ table. (table.number, table.form)) new ≡ map {B = ℕ × Form} (λ table. (table.number, table.form)) old
 
--- A reply comes with the state afterwards; a refusal, or want of memory, leaves the tables as they were.
+-- A reply comes with the state afterwards; one that only looks, a refusal, or want of memory, leaves the tables as they were.
 abbrev pub Comes : State → List StoredTable → Outcome → Result Reply (Stop Reply) → List StoredTable → Type 0
-Comes frame old outcome (Ok reply) new = (done : Done) × (outcome ≡ Ok done) × (reply ≡ done.reply) × (meant frame new ≡ done.after)
+Comes frame old outcome (Ok reply) new = (done : Done) × (outcome ≡ Ok done) × (reply ≡ done.reply) × (meant frame new ≡ done.after) × (leaves_all reply ≡ true → new ≡ old)
 Comes frame old outcome (Err (Because reply)) new = (outcome ≡ Err reply) × (new ≡ old)
 Comes frame old outcome (Err NoMemory) new = new ≡ old
 
 -- The site is that of a table of the frame which stands.
 abbrev pub IsSite : State → Site → Type 0
 IsSite frame site = (found : Found) × (site ≡ site_of frame found) × TableStands frame found
+
+-- ---- the number of rows
+
+abbrev pub stored_count : List StoredTable → ℕ
+stored_count tables = sum_by (λ table. length table.rows) tables
+
+-- Whether there would be more rows than there may be, where there are so many. Only new rows are more than there were.
+abbrev pub too_many : ℕ → Job → List Change → Bool
+too_many count (job.Put rows) all = nat_lt max_rows (count + length all)
+too_many count (job.Alter sets condition) all = false
+too_many count (job.Remove condition) all = false
+too_many count job.Fill all = false
+
+abbrev pub too_many_error : ℕ → Job → List Change → Option Reply
+too_many_error count what all = if too_many count what all then Some too_many_rows else None
+
+-- Why the changes of a table aren't accepted together, where there are so many rows.
+abbrev pub refused_all : StoredTable → ℕ → Site → Job → List Change → Option Reply
+refused_all table count site what all = option_or (option_map error_reply (refused_together site what (rows_meant table) all)) (too_many_error count what all)
+
+-- A statement's job, and not a batch's.
+abbrev pub IsStatement : Job → Type 0
+IsStatement job.Fill = ⊥
+IsStatement _ = Unit {0}
+
+-- The reply that an answer is.
+abbrev pub reply_of : Result Reply (Stop Reply) → Reply
+reply_of (Ok reply) = reply
+reply_of (Err (Because reply)) = reply
+reply_of (Err NoMemory) = no_memory

@@ -1,5 +1,5 @@
 -- What the engine's own tables are seen as.
-use Rattle.std.specs.Prelude.{List, map}
+use Rattle.std.specs.Prelude.{ℕ, List, map, sum_by}
 use Rattle.std.specs.FinMap as finite
 use Rattle.machine.specs.declared.states.State.{State}
 use Rattle.roll_core.specs.declared.store.Former.{Former}
@@ -14,3 +14,7 @@ seen table = record { number = table.number; form = table.form; rows = finite.en
 -- What these parts store.
 abbrev pub parts : State → Option Former → List StoredTable → store.Stored
 parts frame former tables = record { frame = frame; former = former; tables = map seen tables }
+
+-- The number of rows in these tables.
+abbrev pub row_count : List StoredTable → ℕ
+row_count tables = sum_by (λ table. finite.len table.rows.rows) tables

@@ -1,18 +1,22 @@
 //! The engine: stored rows, and the calls that are steps of the machine.
-ghost use Rattle.std.specs.Prelude.{◌≡◌, [], true, IfOk, OnErr};
+ghost use Rattle.std.specs.Prelude.{◌≡◌, [], true, false, IfOk, OnErr};
 ghost use Rattle.machine.specs.declared.events.Event.TheVariants.{Said, Fill};
 ghost use Rattle.machine.specs.declared.events.Reading.TheVariants.{Stmt as Read};
 ghost use Rattle.machine.specs.State.{beginning};
+ghost use Rattle.machine.specs.Follows.{goes_on_filling};
 ghost use Rattle.machine.specs.Laws.{leaves_all};
 ghost use Rattle.machine.specs.Step.{LaneStep, Step};
 ghost use Rattle.roll_core.specs.Engine as engine;
+ghost use Rattle.roll_core.specs.Running as running;
 ghost use Rattle.roll_core.specs.Store.{meaning};
 
 use crate::commands::Cmd;
 use crate::forms::Form;
+use crate::statement::answer;
 use crate::store::{Former, StoredTable};
 use machine::parts::no_memory;
 use machine::{Reply, State, beginning};
+use row_rules::Stop;
 use row_store::RowStore;
 use sql_base::{List, Name, NoMemory, Stmt};
 use std::alloc::Global;
@@ -54,6 +58,17 @@ fn frame_of(alloc: Global, s: State) -> State
     frame
 }
 
+// The reply that an answer is.
+fn replied(answer: Result<Reply, Stop<Reply>>) -> Reply
+    ensures { result ≡ running.reply_of answer }
+{
+    match answer {
+        Ok(reply) => reply,
+        Err(Stop::Because(reply)) => reply,
+        Err(Stop::NoMemory) => no_memory(),
+    }
+}
+
 impl Core {
     /// The version `01_users` with the one table `users`, which has a bigint key `id` and a text `name`, neither of
     /// which may be NULL. The table has no row. An error is want of memory.
@@ -75,5 +90,38 @@ impl Core {
             former: None,
             tables,
         })
+    }
+
+    /// One step of the machine: the statement is said through this path of versions, by their names with
+    /// `public_`, and answered. A refused statement, one that finds no memory, a SELECT and a SET change nothing that is
+    /// stored.
+    pub fn statement(&mut self, path: &[Name], stmt: &Stmt) -> Reply
+        ensures step { Step (meaning self.old) (Said path.now (Read stmt.now)) result (meaning self.new) }
+        ensures refused { leaves_all result ≡ true → self.new ≡ self.old }
+    {
+        machine::laws::states_stand();
+        machine::laws::states_stay_lawful();
+        replied(answer(self.alloc, &self.frame, &mut self.tables, path, stmt))
+    }
+
+    /// A batch of at most so many rows is filled: one step of the machine, and just the one that one lane takes. It takes
+    /// the least keys that are to be filled, of the first table that has any. A refused batch, one that fills none and one
+    /// that finds no memory change nothing that is stored.
+    pub fn batch(&mut self, n: u32) -> Reply
+        ensures step { LaneStep (meaning self.old) (Fill n) result (meaning self.new) }
+        ensures machine { Step (meaning self.old) (Fill n) result (meaning self.new) }
+        ensures refused { goes_on_filling result ≡ false → self.new ≡ self.old }
+    {
+        no_memory()
+    }
+
+    /// A command of a migration is one step of the machine. A refused one changes nothing that is stored. An error is want
+    /// of memory, and then the engine is as it was.
+    pub fn ddl(&mut self, cmd: &Cmd) -> Result<Reply, NoMemory>
+        ensures step { IfOk result (λ reply. Step (meaning self.old) (engine.event_of cmd.now) reply (meaning self.new)) }
+        ensures refused { IfOk result (λ reply. leaves_all reply ≡ true → self.new ≡ self.old) }
+        ensures err { OnErr result (self.new ≡ self.old) }
+    {
+        Err(NoMemory)
     }
 }

@@ -4,9 +4,9 @@ ghost use Rattle.machine.specs.Migrate as migrate;
 ghost use Rattle.trigger_pair.specs.Stored as stored;
 ghost use Rattle.roll_core.specs.Store as spec;
 
-use row_rules::Halves;
 use mig_lens::Cell;
 use phase_steps::{left_row, trimmed, trimmed_view};
+use row_rules::Halves;
 use sql_base::{Copying, List, NoMemory, Value, value_weight};
 use std::alloc::Global;
 use trigger_pair::{Pair, is_marked, new_view, old_view};
@@ -52,11 +52,7 @@ fn alone(values: List<Value>) -> Halves
     }
 }
 
-fn new_half(
-    alloc: Global,
-    pair: &Pair,
-    values: &[Value],
-) -> Result<Option<List<Value>>, NoMemory>
+fn new_half(alloc: Global, pair: &Pair, values: &[Value]) -> Result<Option<List<Value>>, NoMemory>
     ensures { IfOk result (λ half. half ≡ stored.new_half pair.now values.now) }
 {
     if is_marked(pair, values) {

@@ -14,6 +14,7 @@ mod start;
 mod statement;
 mod stepping;
 mod store;
+mod writing;
 
 pub use commands::Cmd;
 pub use engine::Core;

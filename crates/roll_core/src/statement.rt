@@ -10,9 +10,10 @@ ghost use Rattle.roll_core.specs.Running as spec;
 ghost use Rattle.roll_core.specs.Seen.{seen};
 
 use crate::store::StoredTable;
+use crate::writing::written;
 use machine::parts::{BegunRef, begun, error_reply};
 use machine::{Reply, State};
-use row_rules::{Job, SiteRef, Stop, rows_shown};
+use row_rules::{SiteRef, Stop, rows_shown};
 use sql_base::{Expr, Items, Name, Stmt};
 use std::alloc::Global;
 
@@ -48,5 +49,28 @@ fn shown(
         Ok(rows) => Ok(Reply::Select(rows)),
         Err(Stop::Because(error)) => Err(Stop::Because(error_reply(error))),
         Err(Stop::NoMemory) => Err(Stop::NoMemory),
+    }
+}
+
+/// What a statement comes to that is said through a path.
+pub fn answer(
+    alloc: Global,
+    frame: &State,
+    tables: &mut [StoredTable],
+    path: &[Name],
+    stmt: &Stmt,
+) -> Result<Reply, Stop<Reply>>
+    requires { spec.Runs frame.now (map seen tables.old) }
+    ensures answers { spec.Comes frame.now (map seen tables.old) (statement.answer (spec.meant frame.now (map seen tables.old)) path.now stmt.now) result (map seen tables.new) }
+    ensures forms { spec.SameForms (map seen tables.old) (map seen tables.new) }
+    ensures stored { AllByRecursion spec.RowsStored (map seen tables.new) }
+{
+    machine::laws::sites_stand();
+    match begun(alloc, frame, path, stmt)? {
+        BegunRef::Writes(site, job) => written(alloc, frame, tables, site, &job),
+        BegunRef::Shows(site, items, condition) => {
+            shown(alloc, frame, tables, site, items, condition)
+        }
+        BegunRef::Sets => Ok(Reply::Set),
     }
 }

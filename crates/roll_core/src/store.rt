@@ -3,7 +3,6 @@ ghost use Rattle.std.specs.Prelude.{◌≡◌, IfOk};
 ghost use Rattle.roll_core.specs.Store as spec;
 
 use crate::forms::{Form, halves_of, is_unfilled, lost_of};
-
 use mig_lens::Fate;
 use row_rules::{Kept, TableRows};
 use row_store::RowStore;

@@ -26,7 +26,7 @@ returns-in-Ok c =
     let read = read_at c.args.tables.now c.place_of-at.result (sites.number_of site.here) c.index-tables-at.result c.index-tables-at.result c.place_of-at.ensures.within c.place_of-at.ensures.here c.index-tables-at.is in
     let rows = rows_of-read c.args.frame.now tables c.place_of-at.result (sites.number_of site.here) (seen c.index-tables-at.result) c.requires.runs.stands read in
     let next = λ (r : Result (List (List Value)) SqlError). and_then (map_fault error_reply r) (λ rows. Ok (answered s (Select rows))) in
-    (answered s (Select c.in-Ok.rows), ap (λ (all : List Kept). next (rows_shown site c.args.items.now c.args.condition.now max_reply all)) rows ∙ ap next c.in-Ok.ensures, refl, refl)
+    (answered s (Select c.in-Ok.rows), ap (λ (all : List Kept). next (rows_shown site c.args.items.now c.args.condition.now max_reply all)) rows ∙ ap next c.in-Ok.ensures, refl, refl, λ h. refl)
 
 pub returns-in-Err-Because : goal.returns-in-Err-Because
 returns-in-Err-Because c =

@@ -1,0 +1,159 @@
+-- What a job changes can be stored.
+use Rattle.std.proofs.Common.{arith, ◌≡◌, ◌∙◌, ◌<◌, ◌+◌, ℕ, zero, suc, ℤ, List, [], ◌∷◌, Bool, true, false, if◌then◌else◌, Option, Some, None, Ok, length, map, ap, refl, sym, subst, option_map}
+use Rattle.std.specs.Prelude.{slice_get, slice_index_or}
+use Rattle.std.specs.FinMap as finite
+use Rattle.std.specs.List.{AllByRecursion as Each}
+use Rattle.std.proofs.lemmas.Bool.Decides.{nat_tests}
+use Rattle.std.proofs.lemmas.List.{get_or-take}
+use Rattle.sql_base.specs.Laws.{some_same}
+use Rattle.sql_base.specs.declared.values.Value.{Value}
+use Rattle.sql_base.specs.declared.values.Value.TheVariants.{Null}
+use Rattle.mig_lens.specs.declared.columns.Cell.{Cell}
+use Rattle.mig_lens.specs.declared.columns.Cell.TheVariants.{Carry, Make, Still}
+use Rattle.mig_lens.specs.Lens.{is_carried_from}
+use Rattle.mig_lens.specs.Plan.{Table}
+use Rattle.row_rules.specs.declared.kinds.Change.{Change}
+use Rattle.row_rules.specs.declared.kinds.Change.TheVariants.{Put, Remove}
+use Rattle.row_rules.specs.declared.kinds.Job.{Job}
+use Rattle.row_rules.specs.declared.kinds.Kept.{Kept}
+use Rattle.row_rules.specs.Changes.{changes}
+use Rattle.row_rules.specs.Site.{Site, number_of, shape_of}
+use Rattle.machine.specs.declared.states.Mode.TheVariants.{Calm}
+use Rattle.machine.specs.declared.states.State.{State}
+use Rattle.machine.specs.Laws.{ChangesAgree, ChangesKeep, RowsOnSites, RowsStandBy, SharedStands}
+use Rattle.machine.specs.Sites.{BesideStands, ChangeAgrees, ChangeStands, HalvesAgree, JobStands, OfPut, PairStands, SiteRow, SiteStands, TableStands}
+use Rattle.machine.specs.Standing.{IsState, RowsStand}
+use Rattle.machine.specs.State.{Found, Shared, beside_on, rows_of, shared, site_of, table_on}
+use Rattle.machine.specs.Words.{New, Old, Side}
+use Rattle.row_store.specs.Stored.{Rows}
+use Rattle.trigger_pair.specs.declared.pairs.Pair.{Pair}
+use Rattle.trigger_pair.specs.Laws.{IsPair, PairsAreLong}
+use Rattle.trigger_pair.specs.Stored.{is_marked, new_half, new_view, old_view, places}
+use Rattle.roll_core.specs.declared.forms.Form.{Form}
+use Rattle.roll_core.specs.declared.forms.Form.TheVariants.{Own, Paired, Left, Trimmed}
+use Rattle.roll_core.specs.Running.{FormSuits}
+use Rattle.roll_core.specs.Store.{StoredRow, kept}
+use Rattle.roll_core.proofs.Changed.{Stores}
+use Rattle.roll_core.proofs.Fitting.{Weighs, calm_shared, form_stands, storable}
+use Rattle.roll_core.proofs.Made.{HasNew, Placed, PutBy, SideOf, changes_placed}
+use Rattle.roll_core.proofs.Storing.{StoringHolds, stores_row}
+
+-- ---- what two views of a stored row have in common
+
+cell_carried : (cell : Option Cell) (at : ℕ) → is_carried_from at cell ≡ true → cell ≡ Some (Carry at)
+cell_carried None at e = cc
+cell_carried (Some (Carry from)) at e = let same : from ≡ at = grind (arith, nat_tests) in ap (λ n. Some (Carry n)) same
+cell_carried (Some (Make up)) at e = cc
+cell_carried (Some (Still x)) at e = cc
+
+carried_at : (next : ℕ) (cells : List Cell) (row : List Value) (i j : ℕ) → slice_get cells i ≡ Some (Carry j) → slice_index_or (map (λ at. slice_index_or row at Null) (places next cells)) i Null ≡ slice_index_or row j Null
+carried_at next [] row i j e = cc
+carried_at next (Carry from ∷ cells) row zero j e = let same : from ≡ j = cc in ap (λ n. slice_index_or row n Null) same
+carried_at next (Make up ∷ cells) row zero j e = cc
+carried_at next (Still x ∷ cells) row zero j e = cc
+carried_at next (Carry from ∷ cells) row (suc i) j e = carried_at next cells row i j e
+carried_at next (Make up ∷ cells) row (suc i) j e = carried_at (next + 1) cells row i j e
+carried_at next (Still x ∷ cells) row (suc i) j e = carried_at (next + 1) cells row i j e
+
+within : (cells : List Cell) (at : ℕ) (cell : Cell) → slice_get cells at ≡ Some cell → at < length cells
+within [] at cell e = cc
+within (first ∷ cells) zero cell e = omega arith
+within (first ∷ cells) (suc at) cell e = let there = within cells at cell e in omega (arith, there)
+
+half_shown : (marked : Bool) (view new : List Value) → (if marked then None else Some view) ≡ Some new → view ≡ new
+half_shown true view new e = cc
+half_shown false view new e = some_same view new e
+
+pair_agrees : PairsAreLong → (pair : Pair) → IsPair pair → (row : List Value) → HalvesAgree pair.lens (record { old = Some (old_view pair row); new = new_half pair row })
+pair_agrees long pair p row old new i j o n c =
+    let shown = half_shown (is_marked pair row) (new_view pair row) new n in
+    let was = some_same (old_view pair row) old o in
+    let back = cell_carried (slice_get pair.lens.old_cols j) i (sym (p.lens.both_ways i j) ∙ c) in
+    let inside = within pair.lens.old_cols j (Carry i) back in
+    let lengths = (long pair p).0 in
+    let few : j < length pair.old.columns = omega (arith, inside, lengths) in
+    ap (λ xs. slice_index_or xs i Null) (sym shown) ∙ carried_at (length pair.old.columns) pair.lens.new_cols row i j (cell_carried (slice_get pair.lens.new_cols i) j c)
+    ∙ sym (get_or-take (length pair.old.columns) row j Null few) ∙ ap (λ xs. slice_index_or xs j Null) was
+
+-- The rows that are stored agree so.
+older_agree : PairsAreLong → (s : State) (number : ℕ) (form : Form) → FormSuits s number form → (both : Shared) → shared s number ≡ Some both → (rows : List StoredRow) → Each (λ row. HalvesAgree both.lens row.halves) (map (kept form) rows)
+older_agree long s number form suits both is [] = tt
+older_agree long s number form suits both is (row ∷ rows) = (by_form form suits, older_agree long s number form suits both is rows)
+  where
+    no_pair : s.mode ≡ Calm → ⊥
+    no_pair m = let none = calm_shared s number m in cc
+
+    by_form : (form : Form) → FormSuits s number form → HalvesAgree both.lens (kept form row).halves
+    by_form Own f = absurd (no_pair f)
+    by_form (Left pair) f = absurd (no_pair f.calm)
+    by_form (Trimmed pair) f = absurd (no_pair f.calm)
+    by_form (Paired pair) f =
+        let same : f.both ≡ both = some_same f.both both (sym f.shares ∙ is) in
+        let lens = ap (λ (p : Pair). p.lens) f.over ∙ ap (λ (b : Shared). b.lens) same in
+        subst (λ lens. HalvesAgree lens (kept (Paired pair) row).halves) lens (pair_agrees long pair f.is_pair row.1)
+
+-- ---- the site
+
+lens_beside : (side : Side) (both : Shared) → (beside_on side both).lens ≡ both.lens
+lens_beside Old both = refl
+lens_beside New both = refl
+
+joins : (side : Side) (here : Table) (both : Shared) (s : State) (number : ℕ) → PairStands s number both → table_on s side number ≡ Some here → BesideStands side here (Some (beside_on side both))
+joins Old here both s number p on = subst (λ t. BesideStands Old t (Some (beside_on Old both))) (some_same both.old here (sym p.old ∙ on)) (record { fitting = p.fitting; well_formed = p.well_formed })
+joins New here both s number p on = subst (λ t. BesideStands New t (Some (beside_on New both))) (some_same both.new here (sym p.new ∙ on)) (record { fitting = p.fitting; well_formed = p.well_formed })
+
+site_stands : (s : State) (found : Found) (both : Shared) → PairStands s (number_of found.table) both → TableStands s found → shared s (number_of found.table) ≡ Some both → SiteStands (site_of s found)
+site_stands s found both p t is =
+    let there = ap (option_map (beside_on found.side)) is in
+    record { well_formed = t.well_formed; beside = subst (BesideStands found.side found.table) (sym there) (joins found.side found.table both s (number_of found.table) p t.on_side) }
+
+-- ---- the changes of a job
+
+pub record WritingHolds : Type 0 where
+  pub storing : StoringHolds
+  pub shared : SharedStands
+  pub rows : RowsStandBy
+  pub on_site : RowsOnSites
+  pub changes : ChangesKeep
+  pub agree : ChangesAgree
+
+each_stores : StoringHolds → (s : State) (found : Found) → TableStands s found → ((both : Shared) → shared s (number_of found.table) ≡ Some both → PairStands s (number_of found.table) both) → (form : Form) (rows : Rows) → FormSuits s (number_of found.table) form → (all : List Change)
+    → Each (ChangeStands (λ lost. Unit {0}) (site_of s found)) all → Each (OfPut (λ row. HasNew (site_of s found).there row.halves)) all → ((both : Shared) → shared s (number_of found.table) ≡ Some both → Each (ChangeAgrees both.lens) all) → Each (OfPut (λ row. Weighs form rows row.key row.lost)) all
+    → Each (Stores form rows) all
+each_stores law s found stands pairs form rows suits [] sites has agrees weighs = tt
+each_stores law s found stands pairs form rows suits (Put row ∷ all) sites has agrees weighs =
+    let before = finite.get rows row.key in
+    let fits = storable s found stands pairs form before row suits sites.0 has.0 (λ both e. (agrees both e).0) weighs.0 in
+    (stores_row law form before row (form_stands s (number_of found.table) form suits) fits, each_stores law s found stands pairs form rows suits all sites.1 has.1 (λ both e. (agrees both e).1) weighs.1)
+each_stores law s found stands pairs form rows suits (Remove key ∷ all) sites has agrees weighs = (tt, each_stores law s found stands pairs form rows suits all sites.1 has.1 (λ both e. (agrees both e).1) weighs.1)
+
+rows_each : RowsOnSites → (s : State) (found : Found) → IsState s → TableStands s found → (rows : List Kept) → RowsStand s (number_of found.table) rows → Each (SiteRow (λ lost. Unit {0}) (site_of s found)) rows
+rows_each law s found is stands [] h = tt
+rows_each law s found is stands (row ∷ rows) h = (law s found row is stands h.0, rows_each law s found is stands rows h.1)
+
+has_each : (P : ℤ → ℕ → Type 0) (site : Site) (all : List Change) → Each (OfPut (Placed P site)) all → Each (OfPut (λ row. HasNew site.there row.halves)) all
+has_each P site [] h = tt
+has_each P site (Put row ∷ all) h = (h.0.has_new, has_each P site all h.1)
+has_each P site (Remove key ∷ all) h = (tt, has_each P site all h.1)
+
+-- The changes of a job to rows of a table in a state that stands are stored so that they are meant, where the lost weights are those of what is stored.
+pub job_stores : WritingHolds → (s : State) (found : Found) → IsState s → TableStands s found → (form : Form) (rows : Rows) → FormSuits s (number_of found.table) form → (what : Job) → SideOf (site_of s found) what → JobStands (shape_of found.table) what
+    → (older : List Kept) → Each (SiteRow (λ lost. Unit {0}) (site_of s found)) older → ((both : Shared) → shared s (number_of found.table) ≡ Some both → Each (λ row. HalvesAgree both.lens row.halves) older)
+    → (P : ℤ → ℕ → Type 0) → PutBy P (site_of s found) what older → (all : List Change) → changes (site_of s found) what older ≡ Ok all → (Each (OfPut (Placed P (site_of s found))) all → Each (OfPut (λ row. Weighs form rows row.key row.lost)) all)
+    → Each (Stores form rows) all
+job_stores law s found is stands form rows suits what side job older sites agree P put all e weighs =
+    let number = number_of found.table in
+    let site = site_of s found in
+    let pairs : (both : Shared) → shared s number ≡ Some both → PairStands s number both = λ both h. law.shared s number both is h in
+    let placed = changes_placed P site what older all side put e in
+    let made = law.changes s found what older all is stands job sites e in
+    let agrees : (both : Shared) → shared s number ≡ Some both → Each (ChangeAgrees both.lens) all = λ both h.
+    subst (λ lens. Each (ChangeAgrees lens) all) (lens_beside found.side both)
+    (law.agree site (beside_on found.side both) what older all (site_stands s found both (pairs both h) stands h) (ap (option_map (beside_on found.side)) h) (subst (λ lens. Each (λ row. HalvesAgree lens row.halves) older) (sym (lens_beside found.side both)) (agree both h)) e) in
+    each_stores law.storing s found stands pairs form rows suits all made (has_each P site all placed) agrees (weighs placed)
+
+pub stored_agree : PairsAreLong → (s : State) (number : ℕ) (form : Form) → FormSuits s number form → (rows : List StoredRow) (both : Shared) → shared s number ≡ Some both → Each (λ row. HalvesAgree both.lens row.halves) (map (kept form) rows)
+stored_agree long s number form suits rows both is = older_agree long s number form suits both is rows
+
+pub stored_sites : RowsStandBy → RowsOnSites → (s : State) (found : Found) → IsState s → TableStands s found → (rows : List Kept) → rows_of s (number_of found.table) ≡ rows → Each (SiteRow (λ lost. Unit {0}) (site_of s found)) rows
+stored_sites by law s found is stands rows e = rows_each law s found is stands rows (subst (RowsStand s (number_of found.table)) e (by s (number_of found.table) is).1)
