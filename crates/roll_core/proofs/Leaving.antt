@@ -39,7 +39,7 @@ use Rattle.roll_core.specs.declared.forms.Form.{Form}
 use Rattle.roll_core.specs.declared.forms.Form.TheVariants.{Own, Paired, Left, Trimmed}
 use Rattle.roll_core.specs.declared.store.Former.{Former}
 use Rattle.roll_core.specs.Running.{meant, numbers_in}
-use Rattle.roll_core.specs.Stepping.{AreKept, Goes, former_by, former_of, invalid_in, left_by, left_form, left_frame, left_table, lost_by, lost_columns, may_not_complete, not_filled_in}
+use Rattle.roll_core.specs.Stepping.{AreKept, Goes, former_by, former_of, invalid_in, left_by, left_form, left_frame, left_parts, left_table, lost_by, lost_columns, may_not_complete, not_filled_in}
 use Rattle.roll_core.specs.Store.{HasFormer, IsStored, IsStoredRow, IsStoredTable, Stored, StoredRow, StoredTable, form_in, kept, lost_columns_by, over_pair, pair_over, rows_meant, table_meant}
 use Rattle.roll_core.proofs.Pairing.{joined_both, joined_pair, shared_in, shared_of, shared_parts}
 use Rattle.roll_core.proofs.Tidying.{same_parts}
@@ -369,8 +369,12 @@ finish_goes law frame former tables new stored k a f =
     let outcome = complete_is s active.name active.schema active.fates k active.is ∙ ap (λ may. without may (stepped 1 (completed s active.name active.schema active.fates))) (may_same frame tables stored.stands ∙ f.may) in
     (stepped 1 (completed s active.name active.schema active.fates), outcome, refl, ap (λ fr. meant fr new.tables) f.is_frame ∙ ap (meant (left_frame (lost_columns frame.mode tables) frame)) f.is_tables ∙ is.means)
 
+pub finish_stored : (frame : State) (former : Option Former) (tables : List StoredTable) (new : Stored) → Finishes frame tables new → new ≡ left_parts (record { frame = frame; former = former; tables = tables })
+finish_stored frame former tables new f =
+    same_parts new.frame (left_frame (lost_columns frame.mode tables) frame) new.former (former_of frame) new.tables (map left_table tables) f.is_frame f.is_former f.is_tables
+
 pub finish_keeps : UnfilledRowsAreBegun → (frame : State) (former : Option Former) (tables : List StoredTable) (new : Stored) → IsStored (record { frame = frame; former = former; tables = tables }) → migrate.inactive frame.mode ≡ None → Finishes frame tables new → AreKept new
 finish_keeps law frame former tables new stored a f =
     let active = is_active frame.mode a in
     let is = is_finished law frame former tables active.name active.schema active.fates active.is stored f.may in
-    subst AreKept (sym (same_parts new.frame (left_frame (lost_columns frame.mode tables) frame) new.former (former_of frame) new.tables (map left_table tables) f.is_frame f.is_former f.is_tables)) is.kept
+    subst AreKept (sym (finish_stored frame former tables new f)) is.kept

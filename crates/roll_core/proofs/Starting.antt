@@ -33,6 +33,7 @@ use Rattle.machine.specs.Done.{CommandOutcome, Done, Started}
 use Rattle.machine.specs.Migrate.{active, begun_table as machine_begun, may_not_start, planned, start_planned, start_read, started, steps_left, taken, too_heavy, unplanned, unrun}
 use Rattle.machine.specs.Standing.{HalfStands, IsState, RowsStand, StepsStand, TablesStand, may_lose}
 use Rattle.machine.specs.State.{Shared, lens_among, lost_columns_of, table_on}
+use Rattle.machine.specs.declared.events.Asked.TheVariants.{Read as Migrates}
 use Rattle.machine.specs.Words.{Old}
 use Rattle.trigger_pair.specs.declared.pairs.Pair.{Pair}
 use Rattle.trigger_pair.specs.Laws.{BeginningLeaves, BegunRowsHold, IsPair}
@@ -42,8 +43,9 @@ use Rattle.roll_core.specs.declared.forms.Form.{Form}
 use Rattle.roll_core.specs.declared.forms.Form.TheVariants.{Own, Paired, Left, Trimmed}
 use Rattle.roll_core.specs.declared.store.Former.{Former}
 use Rattle.roll_core.specs.Running.{meant}
-use Rattle.roll_core.specs.Stepping.{AreKept, AreRun, Goes, begun_form, begun_frame, begun_table, shared_by, startable, stepped_row}
+use Rattle.roll_core.specs.Stepping.{AreKept, AreRun, Goes, StartStores, begun_form, begun_frame, begun_table, shared_by, startable, stepped_row}
 use Rattle.roll_core.specs.Store.{HasFormer, IsStored, IsStoredRow, IsStoredTable, StoredRow, Stored, StoredTable, form_in, halves_of, kept, lost_columns_by, meaning, over_pair, pair_over, rows_meant, table_meant}
+use Rattle.roll_core.proofs.Tidying.{same_parts}
 use Rattle.roll_core.proofs.Pairing.{joined_both, joined_pair, shared_among, shared_parts}
 
 -- The laws of the lower crates.
@@ -299,3 +301,7 @@ start_keeps law frame tables m plan new new_tables run l former k =
     let may = startable_ok (meant frame tables) m plan l.by in
     let is = is_started law frame former tables m plan run.1.stands k may.0 may.1 in
     subst (λ fr. AreKept (record { frame = fr; former = former; tables = new_tables })) (sym l.begun) (subst (λ (ts : List StoredTable). AreKept (record { frame = begun_frame frame m.name plan; former = former; tables = ts })) (sym l.stored) is.kept)
+
+pub start_stores : (frame : State) (tables : List StoredTable) (m : Migration) (plan : Plan) (new : State) (new_tables : List StoredTable) → Leaves frame tables m plan new new_tables → (former : Option Former) → StartStores (record { frame = frame; former = former; tables = tables }) (Migrates m) (record { frame = new; former = former; tables = new_tables })
+start_stores frame tables m plan new new_tables l former =
+    (plan, (startable_ok (meant frame tables) m plan l.by).1, same_parts new (begun_frame frame m.name plan) former former new_tables (map (begun_table frame plan) tables) l.begun refl l.stored)

@@ -23,7 +23,7 @@ use Rattle.roll_core.specs.declared.forms.Form.{Form}
 use Rattle.roll_core.specs.declared.forms.Form.TheVariants.{Own, Paired, Left, Trimmed}
 use Rattle.roll_core.specs.declared.store.Former.{Former}
 use Rattle.roll_core.specs.Running.{meant}
-use Rattle.roll_core.specs.Stepping.{AreKept, Goes, stepped_row, tidied_form, tidied_frame, tidied_former, tidied_number, tidied_table}
+use Rattle.roll_core.specs.Stepping.{AreKept, Goes, stepped_row, tidied_form, tidied_frame, tidied_former, tidied_number, tidied_parts, tidied_table}
 use Rattle.roll_core.specs.Store.{FormerStands, HasFormer, IsStored, IsStoredRow, IsStoredTable, Stored, StoredRow, StoredTable, form_in, former_pair, kept, lost_columns_by, over_pair, pair_over, rows_meant, table_meant}
 use Rattle.roll_core.proofs.Pairing.{joined_pair, shared_in, shared_parts}
 
@@ -221,8 +221,10 @@ tidied_goes law frame former tables new number stored k t n =
     let third = record s { left = 0; kind = kind.Nothing } in
     (tidied s, tidied_is s k, ap Complete n ∙ reply_by (frame.left == 2) second third, ap (λ fr. meant fr new.tables) t.is_frame ∙ ap (meant (tidied_frame frame)) t.is_tables ∙ is.means ∙ after_by (frame.left == 2) second third)
 
+pub tidied_stored : (frame : State) (former : Option Former) (tables : List StoredTable) (new : Stored) → Tidies frame former tables new → new ≡ tidied_parts (record { frame = frame; former = former; tables = tables })
+tidied_stored frame former tables new t = same_parts new.frame (tidied_frame frame) new.former (tidied_former frame former) new.tables (map tidied_table tables) t.is_frame t.is_former t.is_tables
+
 pub tidied_keeps : TrimmingHolds → (frame : State) (former : Option Former) (tables : List StoredTable) (new : Stored) → IsStored (record { frame = frame; former = former; tables = tables }) → frame.kind ≡ kind.Complete → Tidies frame former tables new → AreKept new
 tidied_keeps law frame former tables new stored k t =
     let is = is_tidied law frame former tables stored k in
-    let same : ◌≡◌ {A = Stored} new (record { frame = tidied_frame frame; former = tidied_former frame former; tables = map tidied_table tables }) = same_parts new.frame (tidied_frame frame) new.former (tidied_former frame former) new.tables (map tidied_table tables) t.is_frame t.is_former t.is_tables in
-    subst AreKept (sym same) is.kept
+    subst AreKept (sym (tidied_stored frame former tables new t)) is.kept

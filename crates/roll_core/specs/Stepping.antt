@@ -1,9 +1,10 @@
 -- What the steps of a migration leave of what is stored, and what its commands are promised.
-use Rattle.std.specs.Prelude.{◌≡◌, ℕ, List, [], Option, None, Some, Result, Ok, Err, map, ◌==◌, if◌then◌else◌}
+use Rattle.std.specs.Prelude.{◌≡◌, false, ℕ, List, [], Option, None, Some, Result, Ok, Err, map, ◌==◌, if◌then◌else◌}
 use Rattle.std.specs.List.{AllByRecursion, filter_map}
 use Rattle.std.specs.Option.{option_and_then, option_map, option_or}
 use Rattle.sql_base.specs.Outcome.{and_then}
 use Rattle.sql_base.specs.declared.values.Value.{Value}
+use Rattle.mig_lens.specs.declared.faults.Kind.{Kind}
 use Rattle.mig_lens.specs.declared.faults.Kind.TheVariants as kind
 use Rattle.mig_lens.specs.declared.faults.Refusal.{Refusal}
 use Rattle.mig_lens.specs.declared.faults.Refusal.TheVariants.{NotFilled}
@@ -25,7 +26,12 @@ use Rattle.machine.specs.declared.states.Mode.{Mode}
 use Rattle.machine.specs.declared.states.Mode.TheVariants.{Calm, Both}
 use Rattle.machine.specs.Migrate.{lost_in_table, may_not_start, not_valid, planned, too_heavy}
 use Rattle.machine.specs.State.{Shared, lens_among, shared, table_on}
+use Rattle.machine.specs.Laws.{leaves_all}
+use Rattle.machine.specs.declared.events.Asked.{Asked}
+use Rattle.machine.specs.declared.events.Asked.TheVariants.{Read as Migrates, Refused as NotRead}
 use Rattle.machine.specs.Words.{Cause, New}
+use Rattle.roll_core.specs.declared.commands.Cmd.{Cmd}
+use Rattle.roll_core.specs.declared.commands.Cmd.TheVariants.{Start, Complete}
 use Rattle.trigger_pair.specs.Stored.{begun}
 use Rattle.phase_steps.specs.Rows.{trimmed, trimmed_view}
 use Rattle.roll_core.specs.declared.forms.Form.{Form}
@@ -145,6 +151,54 @@ tidied_former frame former = if frame.left == 2 then former else None
 
 abbrev pub tidied_number : State → ℕ
 tidied_number frame = if frame.left == 2 then 2 else 3
+
+-- ---- all that is stored
+
+abbrev pub begun_parts : List ℕ → Plan → Stored → Stored
+begun_parts name plan stored = record {
+  frame = begun_frame stored.frame name plan;
+  former = stored.former;
+  tables = map (begun_table stored.frame plan) stored.tables;
+}
+
+-- After the first step of completing.
+abbrev pub left_parts : Stored → Stored
+left_parts stored = record {
+  frame = left_frame (lost_columns stored.frame.mode stored.tables) stored.frame;
+  former = former_of stored.frame;
+  tables = map left_table stored.tables;
+}
+
+-- After the second or the third.
+abbrev pub tidied_parts : Stored → Stored
+tidied_parts stored = record {
+  frame = tidied_frame stored.frame;
+  former = tidied_former stored.frame stored.former;
+  tables = map tidied_table stored.tables;
+}
+
+abbrev pub completed_by : Stored → Kind → Stored
+completed_by stored kind.Nothing = left_parts stored
+completed_by stored kind.Complete = tidied_parts stored
+completed_by stored kind.Rollback = stored
+
+-- After the step of completing that is next.
+abbrev pub completed_parts : Stored → Stored
+completed_parts stored = completed_by stored stored.frame.kind
+
+-- What is stored after a START that is accepted: the migration's plan is begun.
+abbrev pub StartStores : Stored → Asked → Stored → Type 0
+StartStores old (Migrates m) new = (plan : Plan) × (planned (meaning old) m ≡ Ok plan) × (new ≡ begun_parts m.name plan old)
+StartStores old (NotRead refusal) new = ⊥
+
+-- What is stored after a command that is accepted.
+abbrev pub DoneStores : Stored → Cmd → Stored → Type 0
+DoneStores old (Start asked) new = StartStores old asked new
+DoneStores old Complete new = new ≡ completed_parts old
+
+-- The reply of an accepted command comes with what is stored after it.
+abbrev pub Stores : Stored → Cmd → Reply → Stored → Type 0
+Stores old cmd reply new = leaves_all reply ≡ false → DoneStores old cmd new
 
 -- ---- what a command is promised
 

@@ -1,5 +1,5 @@
 //! COMPLETE: one step of a migration's completion.
-ghost use Rattle.std.specs.Prelude.{◌≡◌, IfOk, None, Ok, OnErr, is_some, map};
+ghost use Rattle.std.specs.Prelude.{◌≡◌, IfOk, None, Ok, OnErr, OnOk, is_some, map};
 ghost use Rattle.std.specs.List.{filter_map};
 ghost use Rattle.mig_lens.specs.declared.faults.Kind.TheVariants as kind;
 ghost use Rattle.mig_lens.specs.Lens.{is_carry};
@@ -285,6 +285,7 @@ fn tidied(
     requires stored { model.IsStored (parts frame.old former.old tables.old.items) }
     requires left { frame.old.kind ≡ kind.Complete }
     ensures goes { IfOk result (λ reply. spec.Goes (parts frame.old former.old tables.old.items) (migrate.complete (meant frame.old (map seen tables.old.items))) (Ok reply) (parts frame.new former.new tables.new.items)) }
+    ensures stored { OnOk result (parts frame.new former.new tables.new.items ≡ spec.tidied_parts (parts frame.old former.old tables.old.items)) }
     ensures kept { spec.AreKept (parts frame.new former.new tables.new.items) }
     ensures err { OnErr result (parts frame.new former.new tables.new.items ≡ parts frame.old former.old tables.old.items) }
 {
@@ -307,6 +308,7 @@ fn finish(
     requires none { frame.old.kind ≡ kind.Nothing }
     requires active { migrate.inactive frame.old.mode ≡ None }
     ensures goes { spec.Goes (parts frame.old former.old tables.old.items) (migrate.complete (meant frame.old (map seen tables.old.items))) result (parts frame.new former.new tables.new.items) }
+    ensures stored { OnOk result (parts frame.new former.new tables.new.items ≡ spec.left_parts (parts frame.old former.old tables.old.items)) }
     ensures kept { spec.AreKept (parts frame.new former.new tables.new.items) }
 {
     trigger_pair::laws::paired_rows_are_long();
@@ -329,6 +331,7 @@ pub fn complete(
 ) -> Result<Reply, Stop<Refusal>>
     requires { model.IsStored (parts frame.old former.old tables.old.items) }
     ensures goes { spec.Goes (parts frame.old former.old tables.old.items) (migrate.complete (meant frame.old (map seen tables.old.items))) result (parts frame.new former.new tables.new.items) }
+    ensures stored { OnOk result (parts frame.new former.new tables.new.items ≡ spec.completed_parts (parts frame.old former.old tables.old.items)) }
     ensures kept { spec.AreKept (parts frame.new former.new tables.new.items) }
 {
     match frame.kind {

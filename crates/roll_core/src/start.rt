@@ -1,7 +1,8 @@
 //! START: a migration is begun over what is stored.
-ghost use Rattle.std.specs.Prelude.{◌≡◌, IfOk, None, OnErr, Option, map};
+ghost use Rattle.std.specs.Prelude.{◌≡◌, IfOk, None, OnErr, OnOk, Option, map};
 ghost use Rattle.std.specs.List.{list_any};
 ghost use Rattle.machine.specs.Migrate as migrate;
+ghost use Rattle.machine.specs.declared.events.Asked.TheVariants.{Read as Migrates};
 ghost use Rattle.row_rules.specs.Outcome.{Answers};
 ghost use Rattle.roll_core.specs.declared.store.Former.{Former};
 ghost use Rattle.roll_core.specs.Running.{meant};
@@ -160,6 +161,7 @@ fn start_read(
 ) -> Result<Reply, Stop<Refusal>>
     requires { spec.AreRun frame.old (map seen tables.old.items) }
     ensures goes { (former : Option Former) → spec.Goes (parts frame.old former tables.old.items) (migrate.start_read (meant frame.old (map seen tables.old.items)) m.now) result (parts frame.new former tables.new.items) }
+    ensures stored { (former : Option Former) → OnOk result (spec.StartStores (parts frame.old former tables.old.items) (Migrates m.now) (parts frame.new former tables.new.items)) }
     ensures kept { (former : Option Former) → spec.AreKept (parts frame.old former tables.old.items) → spec.AreKept (parts frame.new former tables.new.items) }
 {
     mig_lens::laws::planned_lenses_join();
@@ -185,6 +187,7 @@ pub fn start(
 ) -> Result<Reply, Stop<Refusal>>
     requires { spec.AreRun frame.old (map seen tables.old.items) }
     ensures goes { (former : Option Former) → spec.Goes (parts frame.old former tables.old.items) (migrate.start (meant frame.old (map seen tables.old.items)) asked.now) result (parts frame.new former tables.new.items) }
+    ensures stored { (former : Option Former) → OnOk result (spec.StartStores (parts frame.old former tables.old.items) asked.now (parts frame.new former tables.new.items)) }
     ensures kept { (former : Option Former) → spec.AreKept (parts frame.old former tables.old.items) → spec.AreKept (parts frame.new former tables.new.items) }
 {
     match asked {

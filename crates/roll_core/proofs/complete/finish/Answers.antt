@@ -4,7 +4,7 @@ use Rattle.roll_core.specs.Running.{meant}
 use Rattle.roll_core.specs.Seen.{parts, seen}
 use Rattle.roll_core.specs.Stepping.{left_frame, left_table, lost_columns, may_not_complete}
 use Rattle.roll_core.specs.Store.{Stored}
-use Rattle.roll_core.proofs.Leaving.{Finishes, finish_goes, finish_keeps, finish_refused, written_back}
+use Rattle.roll_core.proofs.Leaving.{Finishes, finish_goes, finish_keeps, finish_refused, finish_stored, written_back}
 use Rattle.roll_core.proofs.complete.finish.Goals as goal
 
 pub returns-in-Some-clause-goes : goal.returns-in-Some-clause-goes
@@ -32,5 +32,6 @@ returns c =
     let law = c.paired_rows_are_long.ensures.unfilled in
     record {
       goes = finish_goes law frame c.args.former.now tables new c.requires.stored c.requires.none c.requires.active finishes;
+      stored = finish_stored frame c.args.former.now tables new finishes;
       kept = finish_keeps law frame c.args.former.now tables new c.requires.stored c.requires.active finishes;
     }

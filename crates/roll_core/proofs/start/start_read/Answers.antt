@@ -5,7 +5,7 @@ use Rattle.roll_core.specs.declared.store.StoredTable.{StoredTable}
 use Rattle.roll_core.specs.Running.{meant}
 use Rattle.roll_core.specs.Seen.{parts, seen}
 use Rattle.roll_core.specs.Stepping.{startable}
-use Rattle.roll_core.proofs.Starting.{BeginningHolds, Leaves, start_goes, start_keeps, start_refused, stops}
+use Rattle.roll_core.proofs.Starting.{BeginningHolds, Leaves, start_goes, start_keeps, start_refused, start_stores, stops}
 use Rattle.roll_core.proofs.start.start_read.Goals as goal
 
 pub returns-in-Err-clause-goes : goal.returns-in-Err-clause-goes
@@ -21,5 +21,6 @@ returns c =
     let leaves : Leaves c.args.frame.now tables c.args.m.now c.in-Ok.plan c.begin.new.frame new = record { by = subst (λ (ts : List StoredTable). startable (meant c.args.frame.now (map seen ts)) c.args.m.now ≡ Ok c.in-Ok.plan) c.deref.ensures.value c.in-Ok.ensures; begun = c.in_ok-begin.ensures.frame; stored = c.in_ok-begin.ensures.tables } in
     record {
       goes = start_goes law c.args.frame.now tables c.args.m.now c.in-Ok.plan c.begin.new.frame new c.in_ok-copy.field-0 c.requires leaves c.in_ok-copy.ensures;
+      stored = start_stores c.args.frame.now tables c.args.m.now c.in-Ok.plan c.begin.new.frame new leaves;
       kept = start_keeps law c.args.frame.now tables c.args.m.now c.in-Ok.plan c.begin.new.frame new c.requires leaves;
     }
