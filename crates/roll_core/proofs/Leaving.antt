@@ -1,10 +1,10 @@
 -- The first step of completing leaves stored rows that mean what the machine leaves.
-use Rattle.std.proofs.Common.{arith, ◌≡◌, ◌≤◌, ◌<◌, ◌∙◌, ℕ, zero, suc, ℤ, List, [], ◌∷◌, ◌++◌, take, drop, Bool, true, false, ◌&&◌, ◌||◌, ◌==◌, Option, Some, None, Result, Ok, Err, inl, inr, ◌⊎◌, find, is_none, is_some, nat_eq, nat_lt, map, filter, cond, ap, refl, sym, subst, length, option_map, option_and_then, if◌then◌else◌}
+use Rattle.std.proofs.Common.{arith, ◌≡◌, ◌∙◌, ℕ, zero, suc, ℤ, List, [], ◌∷◌, ◌++◌, take, drop, Bool, true, false, ◌||◌, ◌==◌, Option, Some, None, Ok, Err, inl, inr, ◌⊎◌, find, is_none, is_some, nat_eq, nat_lt, map, filter, cond, ap, refl, sym, subst, length, option_map, option_and_then, if◌then◌else◌}
 use Rattle.std.specs.Prelude.{slice_get}
-use Rattle.std.specs.List.{AllByRecursion, cons_option, filter_map, list_all, list_any}
+use Rattle.std.specs.List.{AllByRecursion, cons_option, filter_map, list_any}
 use Rattle.std.specs.Option.{option_map_or, option_or}
 use Rattle.std.proofs.lemmas.Bool.Decides.{nat_tests}
-use Rattle.sql_base.specs.Laws.{both as both_true, either_none, some_same}
+use Rattle.sql_base.specs.Laws.{either_none, some_same}
 use Rattle.sql_base.specs.declared.shapes.Schema.{Schema}
 use Rattle.sql_base.specs.declared.values.Value.{Value}
 use Rattle.sql_eval.specs.Row.{least}
@@ -15,7 +15,6 @@ use Rattle.mig_lens.specs.declared.faults.Refusal.{Refusal}
 use Rattle.mig_lens.specs.declared.faults.Refusal.TheVariants.{NotFilled, Unfinished}
 use Rattle.mig_lens.specs.declared.plans.Fate.{Fate}
 use Rattle.mig_lens.specs.Plan.{table_numbered}
-use Rattle.row_rules.specs.declared.kinds.Cause.{Cause}
 use Rattle.row_rules.specs.declared.kinds.Kept.{Kept}
 use Rattle.row_rules.specs.Outcome.{first_some, without}
 use Rattle.row_rules.specs.Rows.{missing_keys}
@@ -29,18 +28,17 @@ use Rattle.machine.specs.Migrate.{complete, completed, completed_row, completed_
 use Rattle.machine.specs.Done.{CommandOutcome}
 use Rattle.machine.specs.declared.events.Reply.TheVariants.{Complete}
 use Rattle.machine.specs.Standing.{IsState, ModeStands, NewerStands}
-use Rattle.machine.specs.State.{Shared, lens_among, lens_between, lost_columns_of, newer_schema, rows_of, shared, table_on}
+use Rattle.machine.specs.State.{Shared, lens_among, lens_between, newer_schema, rows_of, shared, table_on}
 use Rattle.machine.specs.Words.{New}
 use Rattle.trigger_pair.specs.declared.pairs.Pair.{Pair}
 use Rattle.trigger_pair.specs.Laws.{IsPair, UnfilledRowsAreBegun}
 use Rattle.trigger_pair.specs.Rows.{IsFilledRow, IsPairedRow}
 use Rattle.trigger_pair.specs.Stored.{is_marked, new_view, old_view}
-use Rattle.roll_core.specs.declared.forms.Form.{Form}
-use Rattle.roll_core.specs.declared.forms.Form.TheVariants.{Own, Paired, Left, Trimmed}
+use Rattle.roll_core.specs.declared.forms.Form.TheVariants.{Paired, Left}
 use Rattle.roll_core.specs.declared.store.Former.{Former}
 use Rattle.roll_core.specs.Running.{meant, numbers_in}
 use Rattle.roll_core.specs.Stepping.{AreKept, Goes, former_by, former_of, invalid_in, left_by, left_form, left_frame, left_parts, left_table, lost_by, lost_columns, may_not_complete, not_filled_in}
-use Rattle.roll_core.specs.Store.{HasFormer, IsStored, IsStoredRow, IsStoredTable, Stored, StoredRow, StoredTable, form_in, kept, lost_columns_by, over_pair, pair_over, rows_meant, table_meant}
+use Rattle.roll_core.specs.Store.{IsStored, IsStoredRow, IsStoredTable, Stored, StoredRow, StoredTable, form_in, kept, lost_columns_by, over_pair, pair_over, rows_meant, table_meant}
 use Rattle.roll_core.proofs.Pairing.{joined_both, joined_pair, shared_in, shared_of, shared_parts}
 use Rattle.roll_core.proofs.Tidying.{same_parts}
 use Rattle.roll_core.proofs.Tables.{all_at, numbers_of-meant, rows_of-read}

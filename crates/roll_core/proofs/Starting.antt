@@ -1,11 +1,10 @@
 -- START leaves stored rows that mean what the machine leaves.
-use Rattle.std.proofs.Common.{◌≡◌, ◌∙◌, ℕ, ℤ, List, [], ◌∷◌, Bool, true, false, ◌==◌, Option, Some, None, Result, Ok, Err, inl, inr, map, ap, refl, sym, subst, find, option_map, if◌then◌else◌}
+use Rattle.std.proofs.Common.{◌≡◌, ◌∙◌, ℕ, List, [], ◌∷◌, Bool, true, false, ◌==◌, Option, Some, None, Result, Ok, Err, inl, inr, map, ap, refl, sym, subst, find, if◌then◌else◌}
 use Rattle.std.specs.List.{AllByRecursion}
-use Rattle.std.specs.Option.{option_and_then, option_map_or, option_or}
+use Rattle.std.specs.Option.{option_map_or, option_or}
 use Rattle.sql_base.specs.Fit.{row_fits}
-use Rattle.sql_base.specs.Laws.{and_then_ok, either_none, ok_same, some_same}
+use Rattle.sql_base.specs.Laws.{and_then_ok, either_none, ok_same}
 use Rattle.sql_base.specs.Outcome.{and_then}
-use Rattle.sql_base.specs.declared.shapes.Schema.{Schema}
 use Rattle.sql_base.specs.declared.values.Value.{Value}
 use Rattle.mig_lens.specs.declared.columns.Lens.{Lens}
 use Rattle.mig_lens.specs.declared.faults.Kind.{Kind}
@@ -14,11 +13,10 @@ use Rattle.mig_lens.specs.declared.faults.PlanFault.{PlanFault}
 use Rattle.mig_lens.specs.declared.faults.Refusal.{Refusal}
 use Rattle.mig_lens.specs.declared.faults.Refusal.TheVariants.{Unfinished}
 use Rattle.mig_lens.specs.declared.migrations.Migration.{Migration}
-use Rattle.mig_lens.specs.declared.plans.Fate.{Fate}
 use Rattle.mig_lens.specs.declared.plans.Plan.{Plan}
 use Rattle.mig_lens.specs.Laws.{IsSchema, Joins, PlannedLensesJoin, PlansKeepSchemas}
 use Rattle.mig_lens.specs.Layout.{has_mark}
-use Rattle.mig_lens.specs.Plan.{Table, plan_of, shape_numbered, table_numbered}
+use Rattle.mig_lens.specs.Plan.{plan_of, table_numbered}
 use Rattle.row_rules.specs.declared.kinds.Kept.{Kept}
 use Rattle.row_rules.specs.declared.stops.Stop.{Stop}
 use Rattle.row_rules.specs.declared.stops.Stop.TheVariants.{Because, NoMemory}
@@ -40,11 +38,11 @@ use Rattle.trigger_pair.specs.Laws.{BeginningLeaves, BegunRowsHold, IsPair}
 use Rattle.trigger_pair.specs.Rows.{IsBegunRow, IsPairedRow}
 use Rattle.trigger_pair.specs.Stored.{begun, new_half, new_view}
 use Rattle.roll_core.specs.declared.forms.Form.{Form}
-use Rattle.roll_core.specs.declared.forms.Form.TheVariants.{Own, Paired, Left, Trimmed}
+use Rattle.roll_core.specs.declared.forms.Form.TheVariants.{Own, Paired}
 use Rattle.roll_core.specs.declared.store.Former.{Former}
 use Rattle.roll_core.specs.Running.{meant}
-use Rattle.roll_core.specs.Stepping.{AreKept, AreRun, Goes, StartStores, begun_form, begun_frame, begun_table, shared_by, startable, stepped_row}
-use Rattle.roll_core.specs.Store.{HasFormer, IsStored, IsStoredRow, IsStoredTable, StoredRow, Stored, StoredTable, form_in, halves_of, kept, lost_columns_by, meaning, over_pair, pair_over, rows_meant, table_meant}
+use Rattle.roll_core.specs.Stepping.{AreKept, AreRun, Goes, StartStores, begun_form, begun_frame, begun_table, startable, stepped_row}
+use Rattle.roll_core.specs.Store.{HasFormer, IsStoredRow, IsStoredTable, StoredRow, Stored, StoredTable, form_in, kept, lost_columns_by, over_pair, pair_over, table_meant}
 use Rattle.roll_core.proofs.Tidying.{same_parts}
 use Rattle.roll_core.proofs.Pairing.{joined_both, joined_pair, shared_among, shared_parts}
 

@@ -1,5 +1,5 @@
 -- Rows that a step stores anew stand in the order in which they stood.
-use Rattle.std.proofs.Common.{arith, ◌≡◌, ◌∙◌, ◌<◌, ℕ, zero, suc, ℤ, List, [], ◌∷◌, Bool, true, false, ◌&&◌, Option, Some, None, Bor, int_cmp, Ordering, Less, Equal, Greater, ap, refl, sym, subst, length, map, take, option_map}
+use Rattle.std.proofs.Common.{arith, ◌≡◌, ◌∙◌, ◌<◌, ℕ, zero, suc, ℤ, List, [], ◌∷◌, Bool, true, false, ◌&&◌, Some, None, int_cmp, Ordering, Less, Equal, Greater, ap, refl, sym, subst, length, map, take}
 use Rattle.std.specs.Prelude.{T, slice_get}
 use Rattle.std.specs.Cmp.{int_cmp_total}
 use Rattle.std.specs.FinMap as finite

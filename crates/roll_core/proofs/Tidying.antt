@@ -1,9 +1,8 @@
 -- The second and the third step of completing leave stored rows that mean what the machine leaves.
-use Rattle.std.proofs.Common.{arith, ◌≡◌, ◌≤◌, ◌∙◌, ℕ, List, [], ◌∷◌, Bool, true, false, ◌==◌, Option, Some, None, Ok, inl, inr, ◌⊎◌, find, map, ap, refl, sym, subst, length, if◌then◌else◌}
+use Rattle.std.proofs.Common.{arith, ◌≡◌, ◌∙◌, ℕ, List, [], ◌∷◌, Bool, true, false, ◌==◌, Option, Some, None, Ok, inl, inr, ◌⊎◌, find, map, ap, refl, sym, subst, if◌then◌else◌}
 use Rattle.std.specs.List.{AllByRecursion}
 use Rattle.std.specs.Option.{option_map_or}
 use Rattle.sql_base.specs.declared.values.Value.{Value}
-use Rattle.mig_lens.specs.declared.faults.Kind.{Kind}
 use Rattle.mig_lens.specs.declared.faults.Kind.TheVariants as kind
 use Rattle.row_rules.specs.declared.kinds.Kept.{Kept}
 use Rattle.machine.specs.declared.states.Mode.{Mode}
@@ -11,21 +10,19 @@ use Rattle.machine.specs.declared.states.Mode.TheVariants.{Calm, Both}
 use Rattle.machine.specs.declared.states.State.{State}
 use Rattle.machine.specs.declared.events.Reply.TheVariants.{Complete}
 use Rattle.machine.specs.Migrate.{complete, stepped, table_without_loss, tidied, without_loss}
-use Rattle.machine.specs.Standing.{IsState, ModeStands, StepsStand, may_lose}
+use Rattle.machine.specs.Standing.{IsState, ModeStands, StepsStand}
 use Rattle.machine.specs.State.{Shared, lens_among, lost_columns_of}
 use Rattle.mig_lens.specs.Plan.{table_numbered}
 use Rattle.trigger_pair.specs.declared.pairs.Pair.{Pair}
 use Rattle.trigger_pair.specs.Laws.{FilledRowsAreLong, IsPair}
-use Rattle.trigger_pair.specs.Rows.{IsFilledRow}
 use Rattle.phase_steps.specs.Laws.{TrimmingKeepsView, TrimmingLeavesTrimmed}
-use Rattle.phase_steps.specs.Rows.{IsTrimmedRow}
 use Rattle.roll_core.specs.declared.forms.Form.{Form}
-use Rattle.roll_core.specs.declared.forms.Form.TheVariants.{Own, Paired, Left, Trimmed}
+use Rattle.roll_core.specs.declared.forms.Form.TheVariants.{Own, Left, Trimmed}
 use Rattle.roll_core.specs.declared.store.Former.{Former}
 use Rattle.roll_core.specs.Running.{meant}
 use Rattle.roll_core.specs.Stepping.{AreKept, Goes, stepped_row, tidied_form, tidied_frame, tidied_former, tidied_number, tidied_parts, tidied_table}
-use Rattle.roll_core.specs.Store.{FormerStands, HasFormer, IsStored, IsStoredRow, IsStoredTable, Stored, StoredRow, StoredTable, form_in, former_pair, kept, lost_columns_by, over_pair, pair_over, rows_meant, table_meant}
-use Rattle.roll_core.proofs.Pairing.{joined_pair, shared_in, shared_parts}
+use Rattle.roll_core.specs.Store.{HasFormer, IsStored, IsStoredRow, IsStoredTable, Stored, StoredRow, StoredTable, form_in, former_pair, kept, lost_columns_by, over_pair, pair_over, rows_meant, table_meant}
+use Rattle.roll_core.proofs.Pairing.{joined_pair, shared_parts}
 
 -- The laws of the lower crates.
 pub record TrimmingHolds : Type 0 where
@@ -42,7 +39,7 @@ rows_trimmed law pair (row ∷ rows) is h =
     let shown = law.shown pair row.1 is (law.long pair row.1 is h.0).0 in
     let rest = rows_trimmed law pair rows is h.1 in (
       ap (λ (v : List Value). record { key = row.0; halves = record { old = Some v; new = None }; lost = 0 } ∷ map (kept (Trimmed pair)) (map (stepped_row (Left pair)) rows)) shown
-      ∙ ap (λ (rs : List Kept). without_loss (kept (Left pair) row) ∷ rs) rest.0,
+          ∙ ap (λ (rs : List Kept). without_loss (kept (Left pair) row) ∷ rs) rest.0,
       (law.trimmed pair row.1 is h.0, rest.1),
     )
 
@@ -123,8 +120,8 @@ former_is_pair frame (Some former) tables stands h number both e =
 -- What a step leaves.
 pub record IsTidied (two : Bool) (frame : State) (former : Option Former) (tables : List StoredTable) : Type 0 where
   pub means :
-    meant (if two then record frame { left = 1; lost_columns = [] } else record frame { left = 0; kind = kind.Nothing }) (map tidied_table tables)
-    ≡ (if two then record (meant frame tables) { left = 1; tables = map table_without_loss (map table_meant tables); lost_columns = [] } else record (meant frame tables) { left = 0; kind = kind.Nothing })
+      meant (if two then record frame { left = 1; lost_columns = [] } else record frame { left = 0; kind = kind.Nothing }) (map tidied_table tables)
+      ≡ (if two then record (meant frame tables) { left = 1; tables = map table_without_loss (map table_meant tables); lost_columns = [] } else record (meant frame tables) { left = 0; kind = kind.Nothing })
   pub kept : AreKept (record { frame = if two then record frame { left = 1; lost_columns = [] } else record frame { left = 0; kind = kind.Nothing }; former = if two then former else None; tables = map tidied_table tables })
 
 second_each : TrimmingHolds → (frame : State) (former : Option Former) (stored : Stored) (tables : List StoredTable) → ((number : ℕ) → form_in stored.former stored.frame number ≡ over_pair Left (former_pair former frame number)) → ((number : ℕ) (both : Shared) → former_pair former frame number ≡ Some both → IsPair (pair_over both))

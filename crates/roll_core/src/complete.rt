@@ -57,11 +57,7 @@ fn not_filled(
 }
 
 // Why the rows of the table can't stand in the new version alone.
-fn invalid_in(
-    alloc: Global,
-    frame: &State,
-    table: &StoredTable,
-) -> Result<Option<Cause>, NoMemory>
+fn invalid_in(alloc: Global, frame: &State, table: &StoredTable) -> Result<Option<Cause>, NoMemory>
     ensures { IfOk result (λ cause. cause ≡ spec.invalid_in frame.now (seen table.now)) }
 {
     match table_on(frame, Side::New, table.number) {
@@ -70,11 +66,7 @@ fn invalid_in(
     }
 }
 
-fn invalid(
-    alloc: Global,
-    frame: &State,
-    tables: &[StoredTable],
-) -> Result<Option<Cause>, NoMemory>
+fn invalid(alloc: Global, frame: &State, tables: &[StoredTable]) -> Result<Option<Cause>, NoMemory>
     ensures { IfOk result (λ cause. cause ≡ first_some (spec.invalid_in frame.now) (map seen tables.now)) }
 {
     for table in tables {

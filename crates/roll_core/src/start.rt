@@ -33,11 +33,7 @@ fn has_heavy(alloc: Global, fates: &[(u32, Fate)], table: &StoredTable) -> Resul
     }
 }
 
-fn any_heavy(
-    alloc: Global,
-    fates: &[(u32, Fate)],
-    tables: &[StoredTable],
-) -> Result<bool, NoMemory>
+fn any_heavy(alloc: Global, fates: &[(u32, Fate)], tables: &[StoredTable]) -> Result<bool, NoMemory>
     ensures { IfOk result (λ heavy. heavy ≡ list_any (migrate.has_heavy fates.now) (map model.table_meant (map seen tables.now))) }
 {
     for table in tables {
@@ -62,9 +58,7 @@ fn startable(
     }
     let plan = planned(alloc, frame, m)?;
     if any_heavy(alloc, plan.fates.as_slice(), tables)? {
-        return Err(Stop::Because(Refusal::Limit(Name::from_slice(
-            alloc, b"row",
-        )?)));
+        return Err(Stop::Because(Refusal::Limit(Name::from_slice(alloc, b"row")?)));
     }
     Ok(plan)
 }

@@ -1,6 +1,5 @@
 use Rattle.std.proofs.Common.{◌≡◌, ◌∙◌, ◌++◌, List, Some, ap, drop, length, map, refl, sym, take}
 use Rattle.roll_core.specs.declared.store.StoredTable.{StoredTable}
-use Rattle.roll_core.specs.Running.{meant}
 use Rattle.roll_core.specs.Seen.{parts, seen}
 use Rattle.roll_core.specs.Stepping.{left_frame, left_table, lost_columns, may_not_complete}
 use Rattle.roll_core.specs.Store.{Stored}

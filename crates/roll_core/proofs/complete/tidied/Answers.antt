@@ -1,4 +1,4 @@
-use Rattle.std.proofs.Common.{◌≡◌, ◌∙◌, ap, map}
+use Rattle.std.proofs.Common.{◌∙◌, ap, map}
 use Rattle.roll_core.specs.Seen.{parts, seen}
 use Rattle.roll_core.specs.Stepping.{tidied_table}
 use Rattle.roll_core.specs.Store.{Stored}

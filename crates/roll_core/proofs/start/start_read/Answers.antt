@@ -1,4 +1,4 @@
-use Rattle.std.proofs.Common.{◌≡◌, Err, List, Ok, Option, map, subst}
+use Rattle.std.proofs.Common.{◌≡◌, Err, List, Ok, map, subst}
 use Rattle.machine.specs.Migrate.{start_read}
 use Rattle.row_rules.specs.Outcome.{Answers}
 use Rattle.roll_core.specs.declared.store.StoredTable.{StoredTable}
