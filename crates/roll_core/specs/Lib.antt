@@ -2,4 +2,5 @@ pub mod Changing
 pub mod Engine
 pub mod Running
 pub mod Seen
+pub mod Stepping
 pub mod Store

@@ -7,9 +7,12 @@
 
 mod changing;
 mod commands;
+mod complete;
 mod engine;
 mod forms;
+mod start;
 mod statement;
+mod stepping;
 mod store;
 mod writing;
 

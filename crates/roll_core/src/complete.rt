@@ -1,0 +1,337 @@
+//! COMPLETE: one step of a migration's completion.
+ghost use Rattle.std.specs.Prelude.{◌≡◌, IfOk, None, Ok, OnErr, OnOk, is_some, map};
+ghost use Rattle.std.specs.List.{filter_map};
+ghost use Rattle.mig_lens.specs.declared.faults.Kind.TheVariants as kind;
+ghost use Rattle.mig_lens.specs.Lens.{is_carry};
+ghost use Rattle.row_rules.specs.Outcome.{first_some};
+ghost use Rattle.machine.specs.Migrate as migrate;
+ghost use Rattle.roll_core.specs.Running.{meant};
+ghost use Rattle.roll_core.specs.Seen.{parts, seen};
+ghost use Rattle.roll_core.specs.Stepping as spec;
+ghost use Rattle.roll_core.specs.Store as model;
+
+use crate::forms::Form;
+use crate::stepping::stepped_rows;
+use crate::store::{Former, StoredTable};
+use machine::parts::{lens_among, not_valid, shared, table_on};
+use machine::{Mode, Reply, State};
+use mig_lens::{Cell, Fate, Kind, Lens, Refusal, Side};
+use row_rules::{Cause, Stop, invalid_cause, least_missing};
+use sql_base::{Copying, List, Name, NoMemory, Schema};
+use std::alloc::Global;
+use std::mem::replace;
+
+// ---- whether the migration may be completed
+
+// A row of the table that is still to be filled, with the least key.
+fn not_filled_in(
+    alloc: Global,
+    frame: &State,
+    table: &StoredTable,
+) -> Result<Option<Refusal>, NoMemory>
+    ensures { IfOk result (λ refusal. refusal ≡ spec.not_filled_in frame.now (seen table.now)) }
+{
+    match shared(frame, table.number) {
+        Some(both) => match least_missing(table) {
+            Some(key) => Ok(Some(Refusal::NotFilled(both.new.0.copy(alloc)?, key))),
+            None => Ok(None),
+        },
+        None => Ok(None),
+    }
+}
+
+// The first table that has one.
+fn not_filled(
+    alloc: Global,
+    frame: &State,
+    tables: &[StoredTable],
+) -> Result<Option<Refusal>, NoMemory>
+    ensures { IfOk result (λ refusal. refusal ≡ first_some (spec.not_filled_in frame.now) (map seen tables.now)) }
+{
+    for table in tables {
+        if let Some(refusal) = not_filled_in(alloc, frame, table)? {
+            return Ok(Some(refusal));
+        }
+    }
+    Ok(None)
+}
+
+// Why the rows of the table can't stand in the new version alone.
+fn invalid_in(alloc: Global, frame: &State, table: &StoredTable) -> Result<Option<Cause>, NoMemory>
+    ensures { IfOk result (λ cause. cause ≡ spec.invalid_in frame.now (seen table.now)) }
+{
+    match table_on(frame, Side::New, table.number) {
+        Some(newer) => invalid_cause(alloc, newer, table),
+        None => Ok(None),
+    }
+}
+
+fn invalid(alloc: Global, frame: &State, tables: &[StoredTable]) -> Result<Option<Cause>, NoMemory>
+    ensures { IfOk result (λ cause. cause ≡ first_some (spec.invalid_in frame.now) (map seen tables.now)) }
+{
+    for table in tables {
+        if let Some(cause) = invalid_in(alloc, frame, table)? {
+            return Ok(Some(cause));
+        }
+    }
+    Ok(None)
+}
+
+fn may_not_complete(
+    alloc: Global,
+    frame: &State,
+    tables: &[StoredTable],
+) -> Result<Option<Refusal>, NoMemory>
+    ensures { IfOk result (λ refusal. refusal ≡ spec.may_not_complete frame.now (map seen tables.now)) }
+{
+    if let Some(refusal) = not_filled(alloc, frame, tables)? {
+        return Ok(Some(refusal));
+    }
+    match invalid(alloc, frame, tables)? {
+        Some(cause) => Ok(Some(not_valid(alloc, &cause)?)),
+        None => Ok(None),
+    }
+}
+
+// ---- what is lost
+
+fn is_carried(cell: &Cell) -> bool
+    ensures { result ≡ is_carry cell.now }
+{
+    match cell {
+        Cell::Carry(_) => true,
+        Cell::Make(_) | Cell::Still(_) => false,
+    }
+}
+
+// How many columns are lost.
+fn lost_columns_in(lens: &Lens) -> usize
+    ensures { result ≡ migrate.lost_columns_in lens.now }
+{
+    let mut count = 0;
+    for cell in lens.old_cols.as_slice() {
+        if !is_carried(cell) {
+            count += 1;
+        }
+    }
+    count
+}
+
+// How many columns of a table are lost, where any is. A number that 32 bits don't hold is answered as want of memory.
+fn lost_by(fates: &[(u32, Fate)], table: &StoredTable) -> Result<Option<(u32, u32)>, NoMemory>
+    ensures { IfOk result (λ lost. lost ≡ spec.lost_by fates.now (seen table.now)) }
+{
+    let lost = match lens_among(fates, table.number) {
+        Some(lens) => lost_columns_in(lens),
+        None => 0,
+    };
+    match u32::try_from(lost) {
+        Ok(0) => Ok(None),
+        Ok(lost) => Ok(Some((table.number, lost))),
+        Err(_) => Err(NoMemory),
+    }
+}
+
+fn lost_among(
+    alloc: Global,
+    fates: &[(u32, Fate)],
+    tables: &[StoredTable],
+) -> Result<List<(u32, u32)>, NoMemory>
+    ensures { IfOk result (λ lost. lost ≡ filter_map (spec.lost_by fates.now) (map seen tables.now)) }
+{
+    let mut all = List::new(alloc);
+    for table in tables {
+        if let Some(lost) = lost_by(fates, table)? {
+            all.push(lost)?;
+        }
+    }
+    Ok(all)
+}
+
+// The columns that are lost with the old version, while two versions stand.
+fn lost_columns(
+    alloc: Global,
+    mode: &Mode,
+    tables: &[StoredTable],
+) -> Result<List<(u32, u32)>, NoMemory>
+    ensures { IfOk result (λ lost. lost ≡ spec.lost_columns mode.now (map seen tables.now)) }
+{
+    match mode {
+        Mode::Calm => Ok(List::new(alloc)),
+        Mode::Both { fates, .. } => lost_among(alloc, fates.as_slice(), tables),
+    }
+}
+
+// ---- the first step
+
+fn left_form(form: Form) -> Form
+    ensures { result ≡ spec.left_form form }
+{
+    match form {
+        Form::Own => Form::Own,
+        Form::Paired(pair) => Form::Left(pair),
+        Form::Left(pair) => Form::Left(pair),
+        Form::Trimmed(pair) => Form::Trimmed(pair),
+    }
+}
+
+fn leave(table: &mut StoredTable)
+    ensures { seen table.new ≡ spec.left_table (seen table.old) }
+{
+    let form = replace(&mut table.form, Form::Own);
+    table.form = left_form(form);
+}
+
+fn leave_all(tables: &mut [StoredTable])
+    ensures { map seen tables.new ≡ map spec.left_table (map seen tables.old) }
+{
+    for table in tables {
+        leave(table);
+    }
+}
+
+// The new version stands alone, with two steps of tidying left; what the old one had is given.
+fn left_frame(frame: &mut State, lost: List<(u32, u32)>) -> Option<Former>
+    ensures frame { frame.new ≡ spec.left_frame lost frame.old }
+    ensures former { result ≡ spec.former_of frame.old }
+{
+    match replace(&mut frame.mode, Mode::Calm) {
+        Mode::Calm => None,
+        Mode::Both {
+            name,
+            schema,
+            fates,
+        } => {
+            frame.left = 2;
+            frame.kind = Kind::Complete;
+            frame.lost_columns = lost;
+            Some(Former {
+                version: replace(&mut frame.version, name),
+                schema: replace(&mut frame.schema, schema),
+                fates,
+            })
+        }
+    }
+}
+
+// ---- the other steps
+
+fn tidied_form(alloc: Global, form: &Form) -> Result<Form, NoMemory>
+    ensures { IfOk result (λ tidied. tidied ≡ spec.tidied_form form.now) }
+{
+    match form {
+        Form::Own => Ok(Form::Own),
+        Form::Paired(pair) => Ok(Form::Paired(pair.copy(alloc)?)),
+        Form::Left(pair) => Ok(Form::Trimmed(pair.copy(alloc)?)),
+        Form::Trimmed(_) => Ok(Form::Own),
+    }
+}
+
+fn tidied_table(alloc: Global, table: &StoredTable) -> Result<StoredTable, NoMemory>
+    ensures { IfOk result (λ tidied. seen tidied ≡ spec.tidied_table (seen table.now)) }
+{
+    let form = tidied_form(alloc, &table.form)?;
+    let rows = stepped_rows(alloc, &table.form, &table.rows)?;
+    Ok(StoredTable {
+        number: table.number,
+        form,
+        rows,
+    })
+}
+
+fn tidied_tables(alloc: Global, tables: &[StoredTable]) -> Result<Vec<StoredTable>, NoMemory>
+    ensures { IfOk result (λ tidied. map seen tidied.items ≡ map spec.tidied_table (map seen tables.now)) }
+{
+    let mut tidied = Vec::new(alloc);
+    for table in tables {
+        tidied.push(tidied_table(alloc, table)?)?;
+    }
+    Ok(tidied)
+}
+
+// The second step, or the third, which is the last: its number.
+fn next_step(alloc: Global, frame: &mut State, former: &mut Option<Former>) -> u8
+    ensures frame { frame.new ≡ spec.tidied_frame frame.old }
+    ensures former { former.new ≡ spec.tidied_former frame.old former.old }
+    ensures number { result ≡ spec.tidied_number frame.old }
+{
+    if frame.left == 2 {
+        frame.left = 1;
+        frame.lost_columns = List::new(alloc);
+        2
+    } else {
+        frame.left = 0;
+        frame.kind = Kind::Nothing;
+        *former = None;
+        3
+    }
+}
+
+// The next step of tidying.
+fn tidied(
+    alloc: Global,
+    frame: &mut State,
+    former: &mut Option<Former>,
+    tables: &mut Vec<StoredTable>,
+) -> Result<Reply, NoMemory>
+    requires stored { model.IsStored (parts frame.old former.old tables.old.items) }
+    requires left { frame.old.kind ≡ kind.Complete }
+    ensures goes { IfOk result (λ reply. spec.Goes (parts frame.old former.old tables.old.items) (migrate.complete (meant frame.old (map seen tables.old.items))) (Ok reply) (parts frame.new former.new tables.new.items)) }
+    ensures stored { OnOk result (parts frame.new former.new tables.new.items ≡ spec.tidied_parts (parts frame.old former.old tables.old.items)) }
+    ensures kept { spec.AreKept (parts frame.new former.new tables.new.items) }
+    ensures err { OnErr result (parts frame.new former.new tables.new.items ≡ parts frame.old former.old tables.old.items) }
+{
+    trigger_pair::laws::paired_rows_are_long();
+    phase_steps::laws::completing_changes_no_view();
+    phase_steps::laws::rows_are_stored_by_the_step();
+    let next = tidied_tables(alloc, tables)?;
+    *tables = next;
+    Ok(Reply::Complete(next_step(alloc, frame, former)))
+}
+
+// The first step of completing.
+fn finish(
+    alloc: Global,
+    frame: &mut State,
+    former: &mut Option<Former>,
+    tables: &mut Vec<StoredTable>,
+) -> Result<Reply, Stop<Refusal>>
+    requires stored { model.IsStored (parts frame.old former.old tables.old.items) }
+    requires none { frame.old.kind ≡ kind.Nothing }
+    requires active { migrate.inactive frame.old.mode ≡ None }
+    ensures goes { spec.Goes (parts frame.old former.old tables.old.items) (migrate.complete (meant frame.old (map seen tables.old.items))) result (parts frame.new former.new tables.new.items) }
+    ensures stored { OnOk result (parts frame.new former.new tables.new.items ≡ spec.left_parts (parts frame.old former.old tables.old.items)) }
+    ensures kept { spec.AreKept (parts frame.new former.new tables.new.items) }
+{
+    trigger_pair::laws::paired_rows_are_long();
+    if let Some(refusal) = may_not_complete(alloc, frame, tables)? {
+        return Err(Stop::Because(refusal));
+    }
+    let lost = lost_columns(alloc, &frame.mode, tables)?;
+    *former = left_frame(frame, lost);
+    leave_all(tables);
+    Ok(Reply::Complete(1))
+}
+
+/// Does the next step of the migration's completion, and answers why it can't be done. The first step touches no row. After
+/// an error all is stored as before.
+pub fn complete(
+    alloc: Global,
+    frame: &mut State,
+    former: &mut Option<Former>,
+    tables: &mut Vec<StoredTable>,
+) -> Result<Reply, Stop<Refusal>>
+    requires { model.IsStored (parts frame.old former.old tables.old.items) }
+    ensures goes { spec.Goes (parts frame.old former.old tables.old.items) (migrate.complete (meant frame.old (map seen tables.old.items))) result (parts frame.new former.new tables.new.items) }
+    ensures stored { OnOk result (parts frame.new former.new tables.new.items ≡ spec.completed_parts (parts frame.old former.old tables.old.items)) }
+    ensures kept { spec.AreKept (parts frame.new former.new tables.new.items) }
+{
+    match frame.kind {
+        Kind::Nothing => match &frame.mode {
+            Mode::Calm => Err(Stop::Because(Refusal::NoActive)),
+            Mode::Both { .. } => finish(alloc, frame, former, tables),
+        },
+        Kind::Complete => Ok(tidied(alloc, frame, former, tables)?),
+        Kind::Rollback => Err(Stop::Because(Refusal::Unfinished(Kind::Rollback))),
+    }
+}
