@@ -8,9 +8,10 @@ ghost use Rattle.machine.specs.Laws.{leaves_all};
 ghost use Rattle.machine.specs.Step.{LaneStep, Step};
 ghost use Rattle.roll_core.specs.Engine as engine;
 ghost use Rattle.roll_core.specs.Running as running;
+ghost use Rattle.roll_core.specs.Stepping as stepping;
 ghost use Rattle.roll_core.specs.Store.{meaning};
 
-use crate::commands::Cmd;
+use crate::commands::{Cmd, run};
 use crate::forms::Form;
 use crate::statement::answer;
 use crate::store::{Former, StoredTable};
@@ -120,8 +121,15 @@ impl Core {
     pub fn ddl(&mut self, cmd: &Cmd) -> Result<Reply, NoMemory>
         ensures step { IfOk result (λ reply. Step (meaning self.old) (engine.event_of cmd.now) reply (meaning self.new)) }
         ensures refused { IfOk result (λ reply. leaves_all reply ≡ true → self.new ≡ self.old) }
+        ensures stored { IfOk result (λ reply. stepping.Stores self.old cmd.now reply self.new) }
         ensures err { OnErr result (self.new ≡ self.old) }
     {
-        Err(NoMemory)
+        run(
+            self.alloc,
+            &mut self.frame,
+            &mut self.former,
+            &mut self.tables,
+            cmd,
+        )
     }
 }
