@@ -21,8 +21,8 @@ use Rattle.machine.specs.Migrate.{complete, completed, finish, may_not_complete,
 use Rattle.machine.specs.Step.{ComesTo, Step}
 use Rattle.roll_core.specs.declared.commands.Cmd.{Cmd}
 use Rattle.roll_core.specs.declared.commands.Cmd.TheVariants.{Start, Complete}
-use Rattle.roll_core.specs.Engine.{event_of}
-use Rattle.roll_core.specs.Stepping.{AreKept, Goes, command_outcome}
+use Rattle.roll_core.specs.Engine.{command_outcome, event_of}
+use Rattle.roll_core.specs.Stepping.{AreKept, Goes}
 use Rattle.roll_core.specs.Store.{IsStored, Stored, meaning}
 
 -- ---- steps

@@ -2,6 +2,9 @@
 use Rattle.std.specs.Prelude.{[], ◌∷◌, None}
 use Rattle.machine.specs.declared.events.Event.{Event}
 use Rattle.machine.specs.declared.events.Event.TheVariants as event
+use Rattle.machine.specs.declared.states.State.{State}
+use Rattle.machine.specs.Done.{CommandOutcome}
+use Rattle.machine.specs.Migrate as migrate
 use Rattle.machine.specs.State.{beginning}
 use Rattle.roll_core.specs.declared.commands.Cmd.{Cmd}
 use Rattle.roll_core.specs.declared.commands.Cmd.TheVariants.{Start, Complete}
@@ -12,6 +15,11 @@ use Rattle.roll_core.specs.Store.{Stored}
 abbrev pub event_of : Cmd → Event
 event_of (Start asked) = event.Start asked
 event_of Complete = event.Complete
+
+-- What the machine answers to it.
+abbrev pub command_outcome : State → Cmd → CommandOutcome
+command_outcome s (Start asked) = migrate.start s asked
+command_outcome s Complete = migrate.complete s
 
 -- What an engine stores at first: the one table of the version that the machine begins with, which has no row.
 abbrev pub first_stored : Stored

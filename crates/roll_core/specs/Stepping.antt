@@ -24,7 +24,7 @@ use Rattle.machine.specs.declared.states.State.{State}
 use Rattle.machine.specs.Done.{CommandOutcome, Done}
 use Rattle.machine.specs.declared.states.Mode.{Mode}
 use Rattle.machine.specs.declared.states.Mode.TheVariants.{Calm, Both}
-use Rattle.machine.specs.Migrate.{complete, lost_in_table, may_not_start, not_valid, planned, start, too_heavy}
+use Rattle.machine.specs.Migrate.{lost_in_table, may_not_start, not_valid, planned, too_heavy}
 use Rattle.machine.specs.State.{Shared, lens_among, shared, table_on}
 use Rattle.machine.specs.Laws.{leaves_all}
 use Rattle.machine.specs.declared.events.Asked.{Asked}
@@ -201,11 +201,6 @@ abbrev pub Stores : Stored → Cmd → Reply → Stored → Type 0
 Stores old cmd reply new = leaves_all reply ≡ false → DoneStores old cmd new
 
 -- ---- what a command is promised
-
--- What it comes to.
-abbrev pub command_outcome : State → Cmd → CommandOutcome
-command_outcome s (Start asked) = start s asked
-command_outcome s Complete = complete s
 
 -- The parts of an engine, but for what the laws of the machine say of its state: the frame has no rows of its own, what is kept of a version that is gone is the migration's, and the tables are stored in the forms that the frame says.
 pub record AreKept (stored : Stored) : Type 0 where

@@ -2,7 +2,7 @@
 ghost use Rattle.std.specs.Prelude.{◌≡◌, true, IfOk, OnErr, OnOk};
 ghost use Rattle.machine.specs.Laws.{leaves_all};
 ghost use Rattle.machine.specs.Step.{Step};
-ghost use Rattle.roll_core.specs.Engine.{event_of};
+ghost use Rattle.roll_core.specs.Engine.{command_outcome, event_of};
 ghost use Rattle.roll_core.specs.Seen.{parts};
 ghost use Rattle.roll_core.specs.Stepping as spec;
 ghost use Rattle.roll_core.specs.Store.{IsStored, meaning};
@@ -34,7 +34,7 @@ fn outcome(
     cmd: &Cmd,
 ) -> Result<Reply, Stop<Refusal>>
     requires { IsStored (parts frame.old former.old tables.old.items) }
-    ensures goes { spec.Goes (parts frame.old former.old tables.old.items) (spec.command_outcome (meaning (parts frame.old former.old tables.old.items)) cmd.now) result (parts frame.new former.new tables.new.items) }
+    ensures goes { spec.Goes (parts frame.old former.old tables.old.items) (command_outcome (meaning (parts frame.old former.old tables.old.items)) cmd.now) result (parts frame.new former.new tables.new.items) }
     ensures stored { OnOk result (spec.DoneStores (parts frame.old former.old tables.old.items) cmd.now (parts frame.new former.new tables.new.items)) }
     ensures kept { spec.AreKept (parts frame.new former.new tables.new.items) }
 {
