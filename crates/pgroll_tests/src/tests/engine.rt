@@ -1,5 +1,6 @@
 // What the engine answers by calls: through paths, and beyond what a short input can say.
-use crate::tests::statements::{NULL, Said, VERSION, Wanted, comes_to, reply_to};
+use crate::tests::statements::{NULL, Said, VERSION, Wanted, comes_to, is_replied, reply_to};
+use machine::Reply;
 use roll_core::Core;
 use sql_base::{Code, Copying, NoMemory};
 use std::alloc::Global;
@@ -281,146 +282,172 @@ const UNFILLED: Wanted = Wanted::Shown(&[(1, NULL)]);
 
 const N: Wanted = Wanted::Shown(&[(2, "n")]);
 
-/// Sessions with a migration that adds a column. The first one lives through it; the others are short.
-pub const MIGRATIONS: [&[Row]; 9] = [
-    &[
-        (Said::Line(PATH, OTHER), Wanted::Written, B, NO_TABLE),
-        (Said::Start, Wanted::Started, B, UNFILLED),
-        (
-            Said::Line(PATH, MINUS),
-            Wanted::Written,
-            Wanted::Shown(&[(-2, ""), (1, "b")]),
-            Wanted::Shown(&[(-2, ""), (1, NULL)]),
-        ),
-        (
-            Said::Line(NEW, TWO),
-            Wanted::Written,
-            Wanted::Shown(&[(-2, ""), (1, "b"), (2, "c")]),
-            Wanted::Shown(&[(-2, ""), (1, NULL), (2, "n")]),
-        ),
-        (
-            Said::Complete,
-            Wanted::NotFilled,
-            Wanted::Shown(&[(-2, ""), (1, "b"), (2, "c")]),
-            Wanted::Shown(&[(-2, ""), (1, NULL), (2, "n")]),
-        ),
-        (
-            Said::Batch,
-            Wanted::Filled(1),
-            Wanted::Shown(&[(-2, ""), (1, "b"), (2, "c")]),
-            Wanted::Shown(&[(-2, ""), (1, "b"), (2, "n")]),
-        ),
-        (
-            Said::Batch,
-            Wanted::Filled(0),
-            Wanted::Shown(&[(-2, ""), (1, "b"), (2, "c")]),
-            Wanted::Shown(&[(-2, ""), (1, "b"), (2, "n")]),
-        ),
-        (
-            Said::Complete,
-            Wanted::Completed(1),
-            NO_TABLE,
-            Wanted::Shown(&[(-2, ""), (1, "b"), (2, "n")]),
-        ),
-        (
-            Said::Line(NEW, THREE),
-            Wanted::Written,
-            NO_TABLE,
-            Wanted::Shown(&[(-2, ""), (1, "b"), (2, "n"), (3, "m")]),
-        ),
-        (
-            Said::Complete,
-            Wanted::Completed(2),
-            NO_TABLE,
-            Wanted::Shown(&[(-2, ""), (1, "b"), (2, "n"), (3, "m")]),
-        ),
-        (
-            Said::Line(NEW, FOUR),
-            Wanted::Written,
-            NO_TABLE,
-            Wanted::Shown(&[(-2, ""), (1, "b"), (2, "n"), (3, "m"), (4, "l")]),
-        ),
-        (
-            Said::Complete,
-            Wanted::Completed(3),
-            NO_TABLE,
-            Wanted::Shown(&[(-2, ""), (1, "b"), (2, "n"), (3, "m"), (4, "l")]),
-        ),
-        (
-            Said::Complete,
-            Wanted::Inactive,
-            NO_TABLE,
-            Wanted::Shown(&[(-2, ""), (1, "b"), (2, "n"), (3, "m"), (4, "l")]),
-        ),
-    ],
-    &[
-        (Said::Line(PATH, OTHER), Wanted::Written, B, NO_TABLE),
-        (Said::Line(PATH, MINUS), Wanted::Written, BOTH, NO_TABLE),
-        (
-            Said::Start,
-            Wanted::Started,
-            BOTH,
-            Wanted::Shown(&[(-2, NULL), (1, NULL)]),
-        ),
-        (Said::Batch, Wanted::Filled(2), BOTH, BOTH),
-    ],
-    &[
-        (Said::Line(PATH, OTHER), Wanted::Written, B, NO_TABLE),
-        (Said::Start, Wanted::Started, B, UNFILLED),
-        (Said::Complete, Wanted::NotFilled, B, UNFILLED),
-    ],
-    &[
-        (Said::Start, Wanted::Started, NONE, NONE),
-        (Said::Line(PATH, OTHER), Wanted::Written, B, B),
-    ],
-    &[
-        (Said::Start, Wanted::Started, NONE, NONE),
-        (
-            Said::Line(NEW, TWO),
-            Wanted::Written,
-            Wanted::Shown(&[(2, "c")]),
-            N,
-        ),
-    ],
-    &[
-        (Said::Line(PATH, OTHER), Wanted::Written, B, NO_TABLE),
-        (Said::Start, Wanted::Started, B, UNFILLED),
-        (Said::Batch, Wanted::Filled(1), B, B),
-        (Said::Complete, Wanted::Completed(1), NO_TABLE, B),
-        (Said::Complete, Wanted::Completed(2), NO_TABLE, B),
-        (Said::Complete, Wanted::Completed(3), NO_TABLE, B),
-    ],
-    &[
-        (Said::Start, Wanted::Started, NONE, NONE),
-        (Said::Complete, Wanted::Completed(1), NO_TABLE, NONE),
-        (Said::Line(NEW, TWO), Wanted::Written, NO_TABLE, N),
-    ],
-    &[
-        (Said::Start, Wanted::Started, NONE, NONE),
-        (Said::Complete, Wanted::Completed(1), NO_TABLE, NONE),
-        (Said::Complete, Wanted::Completed(2), NO_TABLE, NONE),
-        (Said::Line(NEW, TWO), Wanted::Written, NO_TABLE, N),
-    ],
-    &[
-        (Said::Line(PATH, OTHER), Wanted::Written, B, NO_TABLE),
-        (Said::Constant, Wanted::Started, B, UNFILLED),
-        (Said::Complete, Wanted::Completed(1), NO_TABLE, UNFILLED),
-        (Said::Complete, Wanted::Completed(2), NO_TABLE, UNFILLED),
-        (Said::Complete, Wanted::Completed(3), NO_TABLE, UNFILLED),
-    ],
+/// One that lives through a migration that adds a column.
+pub const WHOLE: &[Row] = &[
+    (Said::Line(PATH, OTHER), Wanted::Written, B, NO_TABLE),
+    (Said::Start, Wanted::Started, B, UNFILLED),
+    (
+        Said::Line(PATH, MINUS),
+        Wanted::Written,
+        Wanted::Shown(&[(-2, ""), (1, "b")]),
+        Wanted::Shown(&[(-2, ""), (1, NULL)]),
+    ),
+    (
+        Said::Line(NEW, TWO),
+        Wanted::Written,
+        Wanted::Shown(&[(-2, ""), (1, "b"), (2, "c")]),
+        Wanted::Shown(&[(-2, ""), (1, NULL), (2, "n")]),
+    ),
+    (
+        Said::Complete,
+        Wanted::NotFilled,
+        Wanted::Shown(&[(-2, ""), (1, "b"), (2, "c")]),
+        Wanted::Shown(&[(-2, ""), (1, NULL), (2, "n")]),
+    ),
+    (
+        Said::Batch,
+        Wanted::Filled(1),
+        Wanted::Shown(&[(-2, ""), (1, "b"), (2, "c")]),
+        Wanted::Shown(&[(-2, ""), (1, "b"), (2, "n")]),
+    ),
+    (
+        Said::Batch,
+        Wanted::Filled(0),
+        Wanted::Shown(&[(-2, ""), (1, "b"), (2, "c")]),
+        Wanted::Shown(&[(-2, ""), (1, "b"), (2, "n")]),
+    ),
+    (
+        Said::Complete,
+        Wanted::Completed(1),
+        NO_TABLE,
+        Wanted::Shown(&[(-2, ""), (1, "b"), (2, "n")]),
+    ),
+    (
+        Said::Line(NEW, THREE),
+        Wanted::Written,
+        NO_TABLE,
+        Wanted::Shown(&[(-2, ""), (1, "b"), (2, "n"), (3, "m")]),
+    ),
+    (
+        Said::Complete,
+        Wanted::Completed(2),
+        NO_TABLE,
+        Wanted::Shown(&[(-2, ""), (1, "b"), (2, "n"), (3, "m")]),
+    ),
+    (
+        Said::Line(NEW, FOUR),
+        Wanted::Written,
+        NO_TABLE,
+        Wanted::Shown(&[(-2, ""), (1, "b"), (2, "n"), (3, "m"), (4, "l")]),
+    ),
+    (
+        Said::Complete,
+        Wanted::Completed(3),
+        NO_TABLE,
+        Wanted::Shown(&[(-2, ""), (1, "b"), (2, "n"), (3, "m"), (4, "l")]),
+    ),
+    (
+        Said::Complete,
+        Wanted::Inactive,
+        NO_TABLE,
+        Wanted::Shown(&[(-2, ""), (1, "b"), (2, "n"), (3, "m"), (4, "l")]),
+    ),
+];
+
+/// One whose rows are filled by a batch.
+pub const FILLED: &[Row] = &[
+    (Said::Line(PATH, OTHER), Wanted::Written, B, NO_TABLE),
+    (Said::Line(PATH, MINUS), Wanted::Written, BOTH, NO_TABLE),
+    (
+        Said::Start,
+        Wanted::Started,
+        BOTH,
+        Wanted::Shown(&[(-2, NULL), (1, NULL)]),
+    ),
+    (Said::Batch, Wanted::Filled(2), BOTH, BOTH),
+];
+
+/// One that is completed while a row is still to be filled.
+pub const EARLY: &[Row] = &[
+    (Said::Line(PATH, OTHER), Wanted::Written, B, NO_TABLE),
+    (Said::Start, Wanted::Started, B, UNFILLED),
+    (Said::Complete, Wanted::NotFilled, B, UNFILLED),
+];
+
+/// One that writes through the old version alone, after the start.
+pub const OLD_WRITE: &[Row] = &[
+    (Said::Start, Wanted::Started, NONE, NONE),
+    (Said::Line(PATH, OTHER), Wanted::Written, B, B),
+];
+
+/// One that writes through the new version alone, after the start.
+pub const NEW_WRITE: &[Row] = &[
+    (Said::Start, Wanted::Started, NONE, NONE),
+    (
+        Said::Line(NEW, TWO),
+        Wanted::Written,
+        Wanted::Shown(&[(2, "c")]),
+        N,
+    ),
+];
+
+/// One that is completed, over a filled row.
+pub const STEPS: &[Row] = &[
+    (Said::Line(PATH, OTHER), Wanted::Written, B, NO_TABLE),
+    (Said::Start, Wanted::Started, B, UNFILLED),
+    (Said::Batch, Wanted::Filled(1), B, B),
+    (Said::Complete, Wanted::Completed(1), NO_TABLE, B),
+    (Said::Complete, Wanted::Completed(2), NO_TABLE, B),
+    (Said::Complete, Wanted::Completed(3), NO_TABLE, B),
+];
+
+/// One that writes after the first step of completing.
+pub const AFTER_ONE: &[Row] = &[
+    (Said::Start, Wanted::Started, NONE, NONE),
+    (Said::Complete, Wanted::Completed(1), NO_TABLE, NONE),
+    (Said::Line(NEW, TWO), Wanted::Written, NO_TABLE, N),
+];
+
+/// One that writes after the second step of completing.
+pub const AFTER_TWO: &[Row] = &[
+    (Said::Start, Wanted::Started, NONE, NONE),
+    (Said::Complete, Wanted::Completed(1), NO_TABLE, NONE),
+    (Said::Complete, Wanted::Completed(2), NO_TABLE, NONE),
+    (Said::Line(NEW, TWO), Wanted::Written, NO_TABLE, N),
+];
+
+/// One with a column whose values are NULL.
+pub const NULLS: &[Row] = &[
+    (Said::Line(PATH, OTHER), Wanted::Written, B, NO_TABLE),
+    (Said::Constant, Wanted::Started, B, UNFILLED),
+    (Said::Complete, Wanted::Completed(1), NO_TABLE, UNFILLED),
+    (Said::Complete, Wanted::Completed(2), NO_TABLE, UNFILLED),
+    (Said::Complete, Wanted::Completed(3), NO_TABLE, UNFILLED),
 ];
 
 /// Whether the two versions show this of the table.
 pub fn shows(alloc: Global, core: &mut Core, old: Wanted, new: Wanted) -> Result<bool, NoMemory> {
-    let by_old = reply_to(alloc, core, Said::Line(PATH, ALL))?;
-    let by_new = reply_to(alloc, core, Said::Line(NEW, ADDED))?;
-    Ok(comes_to(&by_old, old) && comes_to(&by_new, new))
+    Ok(
+        is_replied(alloc, core, Said::Line(PATH, ALL), old)?
+            && is_replied(alloc, core, Said::Line(NEW, ADDED), new)?,
+    )
+}
+
+// Whether a copy of a reply is what is wanted.
+fn is_wanted_copy(alloc: Global, reply: &Option<Reply>, wanted: Wanted) -> Result<bool, NoMemory> {
+    let copy = reply.copy(alloc)?;
+    Ok(comes_to(&copy, wanted))
+}
+
+// Whether what is said comes to what it has to.
+fn is_done(alloc: Global, core: &mut Core, row: &Row) -> Result<bool, NoMemory> {
+    let reply = reply_to(alloc, core, row.0)?;
+    is_wanted_copy(alloc, &reply, row.1)
 }
 
 // Whether what is said comes to what it has to, and leaves those rows.
 fn is_answered(alloc: Global, core: &mut Core, row: &Row) -> Result<bool, NoMemory> {
-    let reply = reply_to(alloc, core, row.0)?.copy(alloc)?;
-    Ok(comes_to(&reply, row.1) && shows(alloc, core, row.2, row.3)?)
+    Ok(is_done(alloc, core, row)? && shows(alloc, core, row.2, row.3)?)
 }
 
 // The place of the first row of a session that isn't answered so.
@@ -435,18 +462,79 @@ fn first_wrong(alloc: Global, session: &[Row]) -> Result<Option<usize>, NoMemory
 }
 
 #[test]
-fn statements_are_answered_and_refused(rt: HostRuntime) -> Result<(), Fail> {
+fn refused_statements_are_answered(rt: HostRuntime) -> Result<(), Fail> {
     assert_eq!(rt; first_wrong(rt.alloc(), REFUSED)?, None);
+    Ok(())
+}
+
+#[test]
+fn written_rows_are_answered(rt: HostRuntime) -> Result<(), Fail> {
     assert_eq!(rt; first_wrong(rt.alloc(), WRITTEN)?, None);
+    Ok(())
+}
+
+#[test]
+fn listed_items_are_answered(rt: HostRuntime) -> Result<(), Fail> {
     assert_eq!(rt; first_wrong(rt.alloc(), LISTED)?, None);
+    Ok(())
+}
+
+#[test]
+fn changed_rows_are_answered(rt: HostRuntime) -> Result<(), Fail> {
     assert_eq!(rt; first_wrong(rt.alloc(), CHANGED)?, None);
     Ok(())
 }
 
 #[test]
-fn migrations_are_lived_through(rt: HostRuntime) -> Result<(), Fail> {
-    for migration in MIGRATIONS {
-        assert_eq!(rt; first_wrong(rt.alloc(), migration)?, None);
-    }
+fn a_migration_is_lived_through(rt: HostRuntime) -> Result<(), Fail> {
+    assert_eq!(rt; first_wrong(rt.alloc(), WHOLE)?, None);
+    Ok(())
+}
+
+#[test]
+fn rows_are_filled(rt: HostRuntime) -> Result<(), Fail> {
+    assert_eq!(rt; first_wrong(rt.alloc(), FILLED)?, None);
+    Ok(())
+}
+
+#[test]
+fn an_early_completion_is_refused(rt: HostRuntime) -> Result<(), Fail> {
+    assert_eq!(rt; first_wrong(rt.alloc(), EARLY)?, None);
+    Ok(())
+}
+
+#[test]
+fn a_row_of_the_old_version_is_filled(rt: HostRuntime) -> Result<(), Fail> {
+    assert_eq!(rt; first_wrong(rt.alloc(), OLD_WRITE)?, None);
+    Ok(())
+}
+
+#[test]
+fn a_row_of_the_new_version_is_kept(rt: HostRuntime) -> Result<(), Fail> {
+    assert_eq!(rt; first_wrong(rt.alloc(), NEW_WRITE)?, None);
+    Ok(())
+}
+
+#[test]
+fn steps_of_completing_keep_rows(rt: HostRuntime) -> Result<(), Fail> {
+    assert_eq!(rt; first_wrong(rt.alloc(), STEPS)?, None);
+    Ok(())
+}
+
+#[test]
+fn rows_are_written_after_one_step(rt: HostRuntime) -> Result<(), Fail> {
+    assert_eq!(rt; first_wrong(rt.alloc(), AFTER_ONE)?, None);
+    Ok(())
+}
+
+#[test]
+fn rows_are_written_after_two_steps(rt: HostRuntime) -> Result<(), Fail> {
+    assert_eq!(rt; first_wrong(rt.alloc(), AFTER_TWO)?, None);
+    Ok(())
+}
+
+#[test]
+fn a_column_of_nulls_needs_no_batch(rt: HostRuntime) -> Result<(), Fail> {
+    assert_eq!(rt; first_wrong(rt.alloc(), NULLS)?, None);
     Ok(())
 }

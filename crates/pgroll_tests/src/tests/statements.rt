@@ -90,6 +90,17 @@ fn statement_of(alloc: Global, line: &str) -> Result<Option<Stmt>, NoMemory> {
     }
 }
 
+// The reply to a statement, through a path of versions.
+fn reply_through(
+    alloc: Global,
+    core: &mut Core,
+    path: &[&str],
+    stmt: &Stmt,
+) -> Result<Option<Reply>, NoMemory> {
+    let path = names_of(alloc, path)?;
+    Ok(Some(core.statement(&path, stmt)))
+}
+
 // The reply to a line, or nothing where it reads as no statement.
 fn line(
     alloc: Global,
@@ -97,9 +108,8 @@ fn line(
     path: &[&str],
     line: &str,
 ) -> Result<Option<Reply>, NoMemory> {
-    let path = names_of(alloc, path)?;
     match &statement_of(alloc, line)? {
-        Some(stmt) => Ok(Some(core.statement(&path, stmt))),
+        Some(stmt) => reply_through(alloc, core, path, stmt),
         None => Ok(None),
     }
 }
@@ -137,17 +147,15 @@ fn row(
     columns: &[&str],
     length: usize,
 ) -> Result<Option<Reply>, NoMemory> {
-    let path = names_of(alloc, &[VERSION])?;
     let stmt = insert(alloc, table, columns, length)?;
-    Ok(Some(core.statement(&path, &stmt)))
+    reply_through(alloc, core, &[VERSION], &stmt)
 }
 
 // The reply to a SELECT of these items.
 fn query(alloc: Global, core: &mut Core, items: List<Expr>) -> Result<Option<Reply>, NoMemory> {
-    let path = names_of(alloc, &[VERSION])?;
     let table = Name::from_slice(alloc, b"users")?;
     let stmt = Stmt::Query(table, Items::Listed(items), None);
-    Ok(Some(core.statement(&path, &stmt)))
+    reply_through(alloc, core, &[VERSION], &stmt)
 }
 
 fn column(alloc: Global, name: &str) -> Result<Expr, NoMemory> {
@@ -170,9 +178,8 @@ fn numbers(alloc: Global, core: &mut Core) -> Result<Option<Reply>, NoMemory> {
 }
 
 fn set_path(alloc: Global, core: &mut Core, words: &[&str]) -> Result<Option<Reply>, NoMemory> {
-    let path = names_of(alloc, &[VERSION])?;
     let stmt = Stmt::SetPath(List::from_vec(names_of(alloc, words)?));
-    Ok(Some(core.statement(&path, &stmt)))
+    reply_through(alloc, core, &[VERSION], &stmt)
 }
 
 fn added(alloc: Global, up: Option<Expr>) -> Result<Migration, NoMemory> {
@@ -278,4 +285,15 @@ pub fn comes_to(reply: &Option<Reply>, wanted: Wanted) -> bool {
         Some(reply) => is_wanted(reply, wanted),
         None => false,
     }
+}
+
+/// Whether there is a reply to what is said, and it is what is wanted.
+pub fn is_replied(
+    alloc: Global,
+    core: &mut Core,
+    said: Said,
+    wanted: Wanted,
+) -> Result<bool, NoMemory> {
+    let reply = reply_to(alloc, core, said)?;
+    Ok(comes_to(&reply, wanted))
 }

@@ -2,8 +2,12 @@
 // memory, with all as it was. These tests
 // pass with ample memory too; `rt try --test --fail-alloc N` runs them with the allocation of number N refused in each.
 use crate::tests::calls::{Told, call};
-use crate::tests::engine::{CHANGED, LISTED, MIGRATIONS, NO_TABLE, REFUSED, Row, WRITTEN, shows};
-use crate::tests::statements::{Wanted, comes_to, reply_to};
+use crate::tests::engine::{
+    AFTER_ONE, AFTER_TWO, CHANGED, EARLY, FILLED, LISTED, NEW_WRITE, NO_TABLE, NULLS, OLD_WRITE,
+    REFUSED, Row, STEPS, WRITTEN, shows,
+};
+use crate::tests::statements::{Wanted, comes_to, is_replied, reply_to};
+use machine::Reply;
 use roll_core::Core;
 use sql_base::NoMemory;
 use std::alloc::Global;
@@ -119,6 +123,34 @@ fn a_completion_tells_want_of_memory(rt: HostRuntime) {
 // What the two versions show of the table before what is said.
 type Shown = (Wanted, Wanted);
 
+// What a reply, or want of memory, is beside what is wanted.
+#[derive(Clone, Copy)]
+enum Outcome {
+    // What is wanted.
+    AsWanted,
+    // Memory is wanting.
+    NoMemory,
+    // Something else.
+    Other,
+}
+
+fn reply_outcome(reply: &Option<Reply>, wanted: Wanted) -> Outcome {
+    if comes_to(reply, Wanted::NoMemory) {
+        Outcome::NoMemory
+    } else if comes_to(reply, wanted) {
+        Outcome::AsWanted
+    } else {
+        Outcome::Other
+    }
+}
+
+fn row_outcome(alloc: Global, core: &mut Core, row: &Row) -> Outcome {
+    match &reply_to(alloc, core, row.0) {
+        Ok(reply) => reply_outcome(reply, row.1),
+        Err(_) => Outcome::NoMemory,
+    }
+}
+
 // Whether the versions show this, and what is said again comes to what it has to.
 fn is_sound_again(
     alloc: Global,
@@ -126,15 +158,15 @@ fn is_sound_again(
     row: &Row,
     before: Shown,
 ) -> Result<bool, NoMemory> {
-    let kept = shows(alloc, core, before.0, before.1)?;
-    Ok(kept && comes_to(&reply_to(alloc, core, row.0)?, row.1))
+    Ok(shows(alloc, core, before.0, before.1)? && is_replied(alloc, core, row.0, row.1)?)
 }
 
 // Whether what is said comes to what it has to; or to want of memory, and then the versions show what they did.
 fn is_sound(alloc: Global, core: &mut Core, row: &Row, before: Shown) -> bool {
-    match reply_to(alloc, core, row.0) {
-        Ok(reply) if !comes_to(&reply, Wanted::NoMemory) => comes_to(&reply, row.1),
-        _ => matches!(is_sound_again(alloc, core, row, before), Ok(true)),
+    match row_outcome(alloc, core, row) {
+        Outcome::AsWanted => true,
+        Outcome::NoMemory => matches!(is_sound_again(alloc, core, row, before), Ok(true)),
+        Outcome::Other => false,
     }
 }
 
@@ -187,41 +219,41 @@ fn changed_rows_tell_want_of_memory(rt: HostRuntime) {
 }
 
 #[test]
-fn migration_1_tells_want_of_memory(rt: HostRuntime) {
-    assert!(rt; none_wrong(rt.alloc(), MIGRATIONS[1]));
+fn filled_rows_tell_want_of_memory(rt: HostRuntime) {
+    assert!(rt; none_wrong(rt.alloc(), FILLED));
 }
 
 #[test]
-fn migration_2_tells_want_of_memory(rt: HostRuntime) {
-    assert!(rt; none_wrong(rt.alloc(), MIGRATIONS[2]));
+fn an_early_completion_tells_want_of_memory(rt: HostRuntime) {
+    assert!(rt; none_wrong(rt.alloc(), EARLY));
 }
 
 #[test]
-fn migration_3_tells_want_of_memory(rt: HostRuntime) {
-    assert!(rt; none_wrong(rt.alloc(), MIGRATIONS[3]));
+fn a_row_of_the_old_version_tells_want_of_memory(rt: HostRuntime) {
+    assert!(rt; none_wrong(rt.alloc(), OLD_WRITE));
 }
 
 #[test]
-fn migration_4_tells_want_of_memory(rt: HostRuntime) {
-    assert!(rt; none_wrong(rt.alloc(), MIGRATIONS[4]));
+fn a_row_of_the_new_version_tells_want_of_memory(rt: HostRuntime) {
+    assert!(rt; none_wrong(rt.alloc(), NEW_WRITE));
 }
 
 #[test]
-fn migration_5_tells_want_of_memory(rt: HostRuntime) {
-    assert!(rt; none_wrong(rt.alloc(), MIGRATIONS[5]));
+fn steps_of_completing_tell_want_of_memory(rt: HostRuntime) {
+    assert!(rt; none_wrong(rt.alloc(), STEPS));
 }
 
 #[test]
-fn migration_6_tells_want_of_memory(rt: HostRuntime) {
-    assert!(rt; none_wrong(rt.alloc(), MIGRATIONS[6]));
+fn rows_after_one_step_tell_want_of_memory(rt: HostRuntime) {
+    assert!(rt; none_wrong(rt.alloc(), AFTER_ONE));
 }
 
 #[test]
-fn migration_7_tells_want_of_memory(rt: HostRuntime) {
-    assert!(rt; none_wrong(rt.alloc(), MIGRATIONS[7]));
+fn rows_after_two_steps_tell_want_of_memory(rt: HostRuntime) {
+    assert!(rt; none_wrong(rt.alloc(), AFTER_TWO));
 }
 
 #[test]
-fn migration_8_tells_want_of_memory(rt: HostRuntime) {
-    assert!(rt; none_wrong(rt.alloc(), MIGRATIONS[8]));
+fn a_column_of_nulls_tells_want_of_memory(rt: HostRuntime) {
+    assert!(rt; none_wrong(rt.alloc(), NULLS));
 }
