@@ -48,7 +48,7 @@ behind_found first all (row ∷ rows) b h =
     let differs : eq_by_cmp int_cmp row.0 first.0 ≡ false = int_eq_equiv.symm row.0 first.0 ∙ less_differs (int_cmp first.0 row.0) parts.0 in
     (ap (λ test. cond test (Some first.1) (find int_cmp row.0 all)) differs ∙ h.0, behind_found first all rows parts.1 h.1)
 
-sorted_found : (rows : List StoredRow) → T (is_sorted int_cmp rows) → Each (λ row. find int_cmp row.0 rows ≡ Some row.1) rows
+pub sorted_found : (rows : List StoredRow) → T (is_sorted int_cmp rows) → Each (λ row. find int_cmp row.0 rows ≡ Some row.1) rows
 sorted_found [] s = tt
 sorted_found (row ∷ rows) s =
     let parts = split (below_all int_cmp row.0 rows) (is_sorted int_cmp rows) s in

@@ -26,7 +26,7 @@ without_ok : {T E : Type 0} (fault : Option E) (x y : T) → without fault x ≡
 without_ok None x y h = ok_same x y h
 without_ok (Some fault) x y h = cc
 
-map_fault_ok : {T E F : Type 0} (of : E → F) (r : Result T E) (x : T) → map_fault of r ≡ Ok x → r ≡ Ok x
+pub map_fault_ok : {T E F : Type 0} (of : E → F) (r : Result T E) (x : T) → map_fault of r ≡ Ok x → r ≡ Ok x
 map_fault_ok of (Ok y) x h = cc
 map_fault_ok of (Err fault) x h = cc
 

@@ -44,7 +44,7 @@ placed_weigh form rows site (Put row ∷ all) h = (h.0.weighs, placed_weigh form
 placed_weigh form rows site (Remove key ∷ all) h = (tt, placed_weigh form rows site all h.1)
 
 -- The rows that a statement's job puts are new ones of new keys, where it puts new rows and none is refused.
-new_fresh : (site : Site) (rows : List (List Value)) (older : List Kept) (all : List Change) → changes site (job.Put rows) older ≡ Ok all → new_keys_cause site (job.Put rows) older all ≡ None → (new : List Kept) × (map Put new ≡ all) × Fresh older new
+pub new_fresh : (site : Site) (rows : List (List Value)) (older : List Kept) (all : List Change) → changes site (job.Put rows) older ≡ Ok all → new_keys_cause site (job.Put rows) older all ≡ None → (new : List Kept) × (map Put new ≡ all) × Fresh older new
 new_fresh site rows older all e none =
     let made = rows_are (every (map (new_row site) rows)) all e in
     let puts : rows_put all ≡ made.0 = ap rows_put (sym made.2) ∙ rows_put-all made.0 in

@@ -1,7 +1,10 @@
 -- What the engine's own steps are promised, of the frame and the tables alone, and how they answer.
 use Rattle.std.specs.Prelude.{◌≡◌, ℕ, ◌+◌, Bool, true, false, List, Some, Result, Ok, Err, None, Option, if◌then◌else◌, length, map, nat_lt, sum_by}
 use Rattle.std.specs.Option.{option_map, option_or}
-use Rattle.row_rules.specs.Changes.{refused_together}
+use Rattle.sql_base.specs.Outcome.{and_then}
+use Rattle.row_rules.specs.Causes.{row_error}
+use Rattle.row_rules.specs.Changes.{changes, refused_together}
+use Rattle.row_rules.specs.Outcome.{guarded, map_fault}
 use Rattle.std.specs.List.{AllByRecursion}
 use Rattle.row_rules.specs.declared.kinds.Change.{Change}
 use Rattle.row_rules.specs.declared.kinds.Job.{Job}
@@ -99,6 +102,12 @@ too_many_error count what all = if too_many count what all then Some too_many_ro
 -- Why the changes of a table aren't accepted together, where there are so many rows.
 abbrev pub refused_all : StoredTable → ℕ → Site → Job → List Change → Option Reply
 refused_all table count site what all = option_or (option_map error_reply (refused_together site what (rows_meant table) all)) (too_many_error count what all)
+
+-- What a statement changes in a table, or why it is refused, where there are so many rows in all.
+abbrev pub accepted : StoredTable → ℕ → Site → Job → Result (List Change) Reply
+accepted table count site what =
+    and_then (map_fault (λ cause. error_reply (row_error cause)) (changes site what (rows_meant table)))
+    (λ all. guarded (refused_all table count site what all) (Ok all))
 
 -- A statement's job, and not a batch's.
 abbrev pub IsStatement : Job → Type 0

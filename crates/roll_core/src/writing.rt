@@ -1,5 +1,6 @@
 //! Rows that a statement or a batch writes.
 ghost use Rattle.std.specs.Prelude.{◌≡◌, ◌≤◌, ◌<◌, ◌^◌, ◌-◌, None, Ok, Err, Some, IfOk, OnErr, OnOk, length, map, min, slice_get};
+ghost use Rattle.row_rules.specs.Outcome.{Answers};
 ghost use Rattle.row_rules.specs.Site as sites;
 ghost use Rattle.std.specs.List.{AllByRecursion};
 ghost use Rattle.machine.specs.Sites.{JobStands};
@@ -9,11 +10,12 @@ ghost use Rattle.roll_core.specs.Running as spec;
 ghost use Rattle.roll_core.specs.Seen.{row_count, seen};
 
 use crate::changing::put_changes;
+use crate::statement::place_of;
 use crate::store::StoredTable;
-use machine::parts::{MAX_ROWS, error_reply, too_many_rows, written_reply};
+use machine::parts::{MAX_ROWS, error_reply, row_reply, too_many_rows, written_reply};
 use machine::{Reply, State};
-use row_rules::{Change, Job, SiteRef, Stop, refused_together};
-use sql_base::NoMemory;
+use row_rules::{Change, Job, SiteRef, Stop, changes, refused_together};
+use sql_base::{List, NoMemory};
 use std::alloc::Global;
 
 // The number of rows in all tables, or the largest number where they are more.
@@ -80,7 +82,29 @@ pub fn put_at(
     Ok(reply)
 }
 
-/// Writes: what a job does to the rows of the table of a site.
+// What a statement changes in a table, or why it is refused, where there are so many rows in all.
+fn accepted_changes(
+    alloc: Global,
+    table: &StoredTable,
+    count: u64,
+    site: SiteRef<'_>,
+    job: &Job,
+) -> Result<List<Change>, Stop<Reply>>
+    requires { count ≤ 262144 }
+    ensures { Answers (spec.accepted (seen table.now) count (sites.site_of site.entry) job.now) result }
+{
+    let made = match changes(alloc, site, job, table) {
+        Ok(made) => made,
+        Err(Stop::Because(cause)) => return Err(Stop::Because(row_reply(cause))),
+        Err(Stop::NoMemory) => return Err(Stop::NoMemory),
+    };
+    match refused_all(alloc, table, count, site, job, made.as_slice())? {
+        Some(reply) => Err(Stop::Because(reply)),
+        None => Ok(made),
+    }
+}
+
+/// Writes: what a statement's job does to the rows of the table of a site.
 pub fn written(
     alloc: Global,
     frame: &State,
@@ -91,9 +115,21 @@ pub fn written(
     requires runs { spec.Runs frame.now (map seen tables.old) }
     requires there { spec.IsSite frame.now (sites.site_of site) }
     requires job { JobStands (sites.shape_of site.here.now) job.now }
+    requires statement { spec.IsStatement job.now }
     ensures answers { spec.Comes frame.now (map seen tables.old) (statement.written (spec.meant frame.now (map seen tables.old)) (sites.site_of site.entry) job.now) result (map seen tables.new) }
     ensures forms { spec.SameForms (map seen tables.old) (map seen tables.new) }
     ensures stored { AllByRecursion spec.RowsStored (map seen tables.new) }
 {
-    Err(Stop::NoMemory)
+    machine::laws::sites_stand();
+    machine::laws::carried_columns_agree();
+    trigger_pair::laws::pairs_are_long();
+    trigger_pair::laws::stored_rows_hold();
+    phase_steps::laws::left_rows_show_what_was_written();
+    phase_steps::laws::completing_changes_no_view();
+    phase_steps::laws::rows_are_stored_by_the_step();
+    row_store::laws::changes_keep_order();
+    let at = place_of(tables, site.here.1);
+    let count = row_count(tables);
+    let made = accepted_changes(alloc, &tables[at], count, site, job)?;
+    Ok(put_at(alloc, tables, at, site, job, made.as_slice())?)
 }

@@ -8,7 +8,7 @@ use Rattle.machine.specs.Plain as plain
 use Rattle.machine.specs.Statement.{Begun, Sets, Shows, Writes, begun, finished}
 use Rattle.roll_core.specs.Running.{meant}
 use Rattle.roll_core.specs.Seen.{seen}
-use Rattle.roll_core.proofs.Begun.{begun-meant, shows_site, writes_site}
+use Rattle.roll_core.proofs.Begun.{begun-meant, shows_site, statement_said, writes_site}
 use Rattle.roll_core.proofs.statement.answer.Goals as goal
 
 pub written-requires-clause-there : goal.written-requires-clause-there
@@ -22,6 +22,12 @@ written-requires-clause-job c =
     let tables = map seen c.args.tables.now in
     let is : begun (meant c.args.frame.now tables) c.args.path.now c.args.stmt.now ≡ Ok (Writes (sites.site_of c.in-Writes.site) c.in-Writes.job) = begun-meant c.args.frame.now tables c.args.path.now c.args.stmt.now ∙ c.in_ok-site.ensures ∙ ap (λ b. Ok (plain.begun b)) c.in-Writes.is in
     (writes_site c.sites_stand.ensures.writes c.args.frame.now tables c.args.path.now c.args.stmt.now (sites.site_of c.in-Writes.site) c.in-Writes.job c.requires is).1
+
+pub written-requires-clause-statement : goal.written-requires-clause-statement
+written-requires-clause-statement c =
+    let tables = map seen c.args.tables.now in
+    let is : begun (meant c.args.frame.now tables) c.args.path.now c.args.stmt.now ≡ Ok (Writes (sites.site_of c.in-Writes.site) c.in-Writes.job) = begun-meant c.args.frame.now tables c.args.path.now c.args.stmt.now ∙ c.in_ok-site.ensures ∙ ap (λ b. Ok (plain.begun b)) c.in-Writes.is in
+    statement_said (meant c.args.frame.now tables) c.args.path.now c.args.stmt.now (sites.site_of c.in-Writes.site) c.in-Writes.job is
 
 pub shown-requires-clause-there : goal.shown-requires-clause-there
 shown-requires-clause-there c =
