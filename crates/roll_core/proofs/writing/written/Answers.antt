@@ -1,8 +1,7 @@
-use Rattle.std.proofs.Common.{rules, ◌≡◌, ◌∙◌, Ok, Err, ap, length, map, refl, sym}
-use Rattle.std.specs.Prelude.{slice_index_or, slice_set}
+use Rattle.std.proofs.Common.{rules, ◌≡◌, ◌∙◌, Ok, ap, map, refl, sym}
+use Rattle.std.specs.Prelude.{slice_index_or}
 use Rattle.row_rules.specs.Site as sites
 use Rattle.machine.specs.Statement as statement
-use Rattle.roll_core.specs.Changing.{changed}
 use Rattle.roll_core.specs.Running.{accepted, meant, stored_count}
 use Rattle.roll_core.specs.Seen.{seen}
 use Rattle.roll_core.proofs.Jobs.{WritingHolds}
