@@ -24,7 +24,11 @@ returns-in_err-made-clause-answers c =
     let table = slice_index_or c.args.tables.now at d in
     let law : WritingHolds = record {
       storing = record { long = c.pairs_are_long.ensures; holds = c.stored_rows_hold.ensures; shown = c.left_rows_show_what_was_written.ensures.shown; kept = c.left_rows_show_what_was_written.ensures.kept; filled = c.rows_are_stored_by_the_step.ensures.left; trims = c.completing_changes_no_view.ensures.trimmed; trimmed = c.rows_are_stored_by_the_step.ensures.trimmed };
-      shared = c.sites_stand.ensures.shared; rows = c.sites_stand.ensures.rows; on_site = c.sites_stand.ensures.on_site; changes = c.sites_stand.ensures.changes; agree = c.carried_columns_agree.ensures;
+      shared = c.sites_stand.ensures.shared;
+      rows = c.sites_stand.ensures.rows;
+      on_site = c.sites_stand.ensures.on_site;
+      changes = c.sites_stand.ensures.changes;
+      agree = c.carried_columns_agree.ensures;
     } in
     let meeting : Meeting c.args.frame.now tables at table c.args.job.now site = record { runs = c.requires.runs; read = read_at c.args.tables.now at (sites.number_of site.here) d table c.place_of-at.ensures.within c.place_of-at.ensures.here refl; said = c.requires.statement; settled = c.requires.job } in
     let count : c.row_count-count.result ≡ stored_count tables = (count_is c.args.frame.now c.args.tables.now c.row_count-count.result c.requires.runs.stands c.row_count-count.ensures).0 in
@@ -40,7 +44,11 @@ settled c =
     let table = slice_index_or c.args.tables.now at d in
     let law : WritingHolds = record {
       storing = record { long = c.pairs_are_long.ensures; holds = c.stored_rows_hold.ensures; shown = c.left_rows_show_what_was_written.ensures.shown; kept = c.left_rows_show_what_was_written.ensures.kept; filled = c.rows_are_stored_by_the_step.ensures.left; trims = c.completing_changes_no_view.ensures.trimmed; trimmed = c.rows_are_stored_by_the_step.ensures.trimmed };
-      shared = c.sites_stand.ensures.shared; rows = c.sites_stand.ensures.rows; on_site = c.sites_stand.ensures.on_site; changes = c.sites_stand.ensures.changes; agree = c.carried_columns_agree.ensures;
+      shared = c.sites_stand.ensures.shared;
+      rows = c.sites_stand.ensures.rows;
+      on_site = c.sites_stand.ensures.on_site;
+      changes = c.sites_stand.ensures.changes;
+      agree = c.carried_columns_agree.ensures;
     } in
     let meeting : Meeting c.args.frame.now tables at table c.args.job.now site = record { runs = c.requires.runs; read = read_at c.args.tables.now at (sites.number_of site.here) d table c.place_of-at.ensures.within c.place_of-at.ensures.here refl; said = c.requires.statement; settled = c.requires.job } in
     let count : c.row_count-count.result ≡ stored_count tables = (count_is c.args.frame.now c.args.tables.now c.row_count-count.result c.requires.runs.stands c.row_count-count.ensures).0 in
