@@ -1,5 +1,5 @@
 -- What a statement changes in its table is accepted or refused as the machine has it, and leads to what the machine says.
-use Rattle.std.proofs.Common.{arith, ◌≡◌, ◌≤◌, ◌<◌, ◌∙◌, ◌^◌, ◌-◌, min, ℕ, zero, suc, ◌+◌, ℤ, List, [], ◌∷◌, Bool, true, false, Option, Some, None, Result, Ok, Err, if◌then◌else◌, is_some, nat_lt, length, map, int_cmp, ap, refl, sym, subst, option_map}
+use Rattle.std.proofs.Common.{arith, ◌≡◌, ◌≤◌, ◌<◌, ◌∙◌, ◌^◌, ◌-◌, min, ℕ, zero, suc, ◌+◌, ℤ, List, [], ◌∷◌, true, false, Option, Some, None, Result, Ok, Err, if◌then◌else◌, is_some, nat_lt, length, map, int_cmp, ap, refl, sym, subst, option_map}
 use Rattle.std.specs.Prelude.{slice_get, slice_index_or, slice_set}
 use Rattle.std.specs.FinMap as finite
 use Rattle.std.specs.FinMap.{find}
@@ -40,10 +40,10 @@ use Rattle.machine.specs.Standing.{IsState}
 use Rattle.roll_core.specs.Changing.{changed, rows_after, with_changes}
 use Rattle.roll_core.specs.Running.{Comes, FormSuits, IsSite, IsStatement, Runs, RowsStored, SameForms, accepted, meant, refused_all, stored_count, too_many, too_many_error}
 use Rattle.roll_core.specs.Seen.{row_count as own_count, seen}
-use Rattle.roll_core.specs.Store.{IsStoredRow, StoredRow, StoredTable, kept, lost_columns_by, rows_meant, table_meant}
+use Rattle.roll_core.specs.Store.{StoredRow, StoredTable, kept, lost_columns_by, rows_meant, table_meant}
 use Rattle.roll_core.proofs.Begun.{stands_there}
 use Rattle.roll_core.proofs.Changed.{Stores, changes_meant, changes_stored}
-use Rattle.roll_core.proofs.Counted.{Fresh, distinct_rows, new_count, removed_count, rows_are, same_count}
+use Rattle.roll_core.proofs.Counted.{distinct_rows, new_count, removed_count, rows_are, same_count}
 use Rattle.roll_core.proofs.Fitting.{sorted_found}
 use Rattle.roll_core.proofs.Jobs.{WritingHolds}
 use Rattle.roll_core.proofs.Made.{Placed, changes_placed, map_fault_ok}

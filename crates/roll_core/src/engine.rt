@@ -99,6 +99,7 @@ impl Core {
     pub fn statement(&mut self, path: &[Name], stmt: &Stmt) -> Reply
         ensures step { Step (meaning self.old) (Said path.now (Read stmt.now)) result (meaning self.new) }
         ensures refused { leaves_all result ≡ true → self.new ≡ self.old }
+        ensures keeps { (self.new.frame ≡ self.old.frame) × (self.new.former ≡ self.old.former) }
     {
         machine::laws::states_stand();
         machine::laws::states_stay_lawful();

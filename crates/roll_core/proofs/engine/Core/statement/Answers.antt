@@ -5,7 +5,7 @@ use Rattle.machine.specs.declared.events.Reading.TheVariants.{Stmt as Read}
 use Rattle.machine.specs.Step.{Step}
 use Rattle.roll_core.specs.Running.{reply_of}
 use Rattle.roll_core.specs.Seen.{parts, seen}
-use Rattle.roll_core.specs.Store.{IsStored, meaning}
+use Rattle.roll_core.specs.Store.{IsStored, Stored, meaning}
 use Rattle.roll_core.proofs.Runs.{runs_of}
 use Rattle.roll_core.proofs.Said.{lent_back, moved, said_looks, said_step, said_stored}
 use Rattle.roll_core.proofs.engine.Core.statement.Goals as goal
@@ -43,3 +43,6 @@ returns-clause-refused c leaves =
     let told : leaves_all (reply_of c.answer.result) ≡ _ = ap leaves_all (sym c.replied.ensures) ∙ leaves in
     let same = said_looks inside.frame (map seen c.deref_mut.result.now) (map seen c.answer.new.tables) _ c.answer.result c.answer.ensures.answers told in
     ap (parts inside.frame inside.former) back ∙ ap (λ ts. record { frame = inside.frame; former = inside.former; tables = ts }) same ∙ old
+
+pub returns-clause-keeps : goal.returns-clause-keeps
+returns-clause-keeps c = (ap (λ (stored : Stored). stored.frame) c.self.view_is, ap (λ (stored : Stored). stored.former) c.self.view_is)
