@@ -1,5 +1,5 @@
 -- A batch: its rows are stored as they are filled, or it is refused as it is refused.
-use Rattle.std.proofs.Common.{◌≡◌, ◌∙◌, ◌<◌, ℕ, zero, suc, List, [], ◌∷◌, true, false, Option, Some, None, Result, Ok, Err, filter, length, map, take, ap, refl, sym, subst, option_map}
+use Rattle.std.proofs.Common.{◌≡◌, ◌∙◌, ℕ, zero, suc, List, [], ◌∷◌, true, false, Option, Some, None, Result, Ok, Err, filter, map, take, ap, refl, sym, subst, option_map}
 use Rattle.std.specs.Prelude.{slice_get, slice_set}
 use Rattle.std.specs.FinMap as finite
 use Rattle.std.specs.List.{AllByRecursion as Each}
@@ -9,7 +9,6 @@ use Rattle.sql_base.specs.Outcome.{and_then}
 use Rattle.mig_lens.specs.declared.faults.Refusal.{Refusal}
 use Rattle.row_rules.specs.declared.kinds.Cause.{Cause}
 use Rattle.row_rules.specs.declared.kinds.Change.{Change}
-use Rattle.row_rules.specs.declared.kinds.Job.{Job}
 use Rattle.row_rules.specs.declared.kinds.Job.TheVariants as job
 use Rattle.row_rules.specs.declared.kinds.Kept.{Kept}
 use Rattle.row_rules.specs.declared.stops.Stop.{Stop}
@@ -17,16 +16,16 @@ use Rattle.row_rules.specs.declared.stops.Stop.TheVariants.{Because, NoMemory}
 use Rattle.row_rules.specs.Changes.{after_changes, cause_together, changes}
 use Rattle.row_rules.specs.Outcome.{map_fault, without}
 use Rattle.row_rules.specs.Rows.{missing_keys as keys_missing, rows_at}
-use Rattle.row_rules.specs.Site.{Site, is_missing, name_of, number_of}
+use Rattle.row_rules.specs.Site.{is_missing, name_of, number_of}
 use Rattle.machine.specs.declared.events.Reply.{Reply}
-use Rattle.machine.specs.declared.events.Reply.TheVariants.{Filled, Refused}
+use Rattle.machine.specs.declared.events.Reply.TheVariants.{Filled}
 use Rattle.machine.specs.declared.states.State.{State}
-use Rattle.machine.specs.Done.{CommandOutcome, Done, answered, as_outcome}
+use Rattle.machine.specs.Done.{CommandOutcome, answered, as_outcome}
 use Rattle.machine.specs.Follows.{goes_on_filling}
 use Rattle.machine.specs.Laws.{FillingStands, leaves_all}
-use Rattle.machine.specs.Migrate.{batch, batch_settled, fill_keys, least_batch, refused_batch}
-use Rattle.machine.specs.Sites.{HalvesAgree, SiteRow, TableStands}
-use Rattle.machine.specs.Standing.{Ascends, IsState}
+use Rattle.machine.specs.Migrate.{batch, fill_keys, least_batch, refused_batch}
+use Rattle.machine.specs.Sites.{HalvesAgree, SiteRow}
+use Rattle.machine.specs.Standing.{Ascends}
 use Rattle.machine.specs.State.{Found, Shared, filling_site, missing_keys, rows_of, shared, site_of, with_rows}
 use Rattle.machine.specs.Statement.{changed as changed_by, written_reply}
 use Rattle.machine.specs.Words.{New}
@@ -34,11 +33,11 @@ use Rattle.row_store.specs.Laws.{RemovedIsLeftOut}
 use Rattle.roll_core.specs.declared.forms.Form.{Form}
 use Rattle.roll_core.specs.declared.forms.Form.TheVariants.{Own, Paired, Left, Trimmed}
 use Rattle.roll_core.specs.declared.store.StoredTable.{StoredTable as OwnTable}
-use Rattle.roll_core.specs.Batch.{Fills, FillsThrough, batch_at, batch_changes, changes_at, number_at}
-use Rattle.roll_core.specs.Changing.{changed, rows_after, with_changes}
+use Rattle.roll_core.specs.Batch.{Fills, FillsThrough, batch_at, batch_changes, changes_at}
+use Rattle.roll_core.specs.Changing.{changed}
 use Rattle.roll_core.specs.Running.{Comes, FormSuits, Runs, RowsStored, SameForms, meant}
 use Rattle.roll_core.specs.Seen.{seen}
-use Rattle.roll_core.specs.Store.{IsStoredRow, StoredTable, kept, rows_meant, table_meant}
+use Rattle.roll_core.specs.Store.{StoredTable, kept, rows_meant, table_meant}
 use Rattle.roll_core.proofs.Changed.{Stores, changes_meant, changes_stored}
 use Rattle.roll_core.proofs.Fitting.{Weighs, older_weigh}
 use Rattle.roll_core.proofs.Jobs.{WritingHolds, job_stores, stored_agree, stored_sites}

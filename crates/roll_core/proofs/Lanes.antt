@@ -1,5 +1,5 @@
 -- A batch is the step that one lane takes, and what is stored afterwards is what an engine stores.
-use Rattle.std.proofs.Common.{◌≡◌, ◌∙◌, ℕ, List, Option, Result, Ok, Err, inl, inr, ap, refl, sym}
+use Rattle.std.proofs.Common.{◌∙◌, ℕ, List, Option, Result, Ok, Err, inl, inr, ap, refl, sym}
 use Rattle.std.specs.List.{AllByRecursion as Each}
 use Rattle.row_rules.specs.declared.stops.Stop.{Stop}
 use Rattle.row_rules.specs.declared.stops.Stop.TheVariants.{Because, NoMemory}

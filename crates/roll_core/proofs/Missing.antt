@@ -1,9 +1,7 @@
 -- The first rows that are still to be filled, and the first table that has any.
-use Rattle.std.proofs.Common.{arith, ◌≡◌, ◌∙◌, ℕ, zero, suc, ℤ, List, [], ◌∷◌, Bool, true, false, ◌||◌, if◌then◌else◌, Option, Some, None, find, length, map, nat_lt, take, filter, ap, refl, sym, subst, option_map, int_cmp, int_eq, Ordering, Less, Equal, Greater}
-use Rattle.std.specs.Prelude.{slice_get}
+use Rattle.std.proofs.Common.{arith, ◌≡◌, ◌∙◌, ℕ, zero, suc, ℤ, List, [], ◌∷◌, Bool, true, false, ◌||◌, if◌then◌else◌, length, map, nat_lt, take, filter, ap, refl, sym, subst, int_cmp, int_eq, Ordering, Less, Equal, Greater}
 use Rattle.std.specs.List.{AllByRecursion as Each, list_any}
 use Rattle.std.specs.Ordering.{is_eq, ordering_reverse}
-use Rattle.std.specs.Option.{option_map_or}
 use Rattle.std.proofs.lemmas.Bool.Decides.{nat_tests}
 use Rattle.std.proofs.lemmas.Cmp.{int_cmp_total, tied_itself}
 use Rattle.row_rules.specs.declared.kinds.Kept.{Kept}

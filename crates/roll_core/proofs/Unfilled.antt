@@ -1,18 +1,14 @@
 -- The first table with a row that is still to be filled, as it is found among the stored tables.
-use Rattle.std.proofs.Common.{arith, ◌≡◌, ◌∙◌, ◌<◌, ℕ, zero, suc, List, [], ◌∷◌, Bool, true, false, if◌then◌else◌, Option, Some, None, find, drop, length, map, nat_lt, filter, ap, refl, sym, subst, option_map, option_and_then}
+use Rattle.std.proofs.Common.{arith, ◌≡◌, ◌∙◌, ◌<◌, ℕ, zero, suc, List, [], ◌∷◌, Bool, true, false, if◌then◌else◌, Option, Some, None, find, drop, length, map, nat_lt, filter, ap, refl, sym, option_map, option_and_then}
 use Rattle.std.specs.Prelude.{slice_get, slice_index_or}
-use Rattle.std.specs.List.{AllByRecursion as Each, list_any}
+use Rattle.std.specs.List.{AllByRecursion as Each}
 use Rattle.std.specs.Option.{option_map_or, option_or}
 use Rattle.std.proofs.lemmas.List.{length-map}
 use Rattle.sql_base.specs.Laws.{either_none, some_same}
-use Rattle.row_rules.specs.declared.kinds.Kept.{Kept}
 use Rattle.row_rules.specs.Rows.{missing_keys as keys_missing}
-use Rattle.row_rules.specs.Site.{is_missing}
-use Rattle.machine.specs.declared.states.Mode.{Mode}
-use Rattle.machine.specs.declared.states.Mode.TheVariants.{Calm, Both}
+use Rattle.machine.specs.declared.states.Mode.TheVariants.{Calm}
 use Rattle.machine.specs.declared.states.State.{State}
 use Rattle.machine.specs.Migrate.{bad_batch, first_of, has_missing, inactive, may_not_fill, steps_left, unfilled_tables}
-use Rattle.machine.specs.Standing.{IsState}
 use Rattle.machine.specs.State.{Shared, missing_keys, rows_of, shared}
 use Rattle.roll_core.specs.declared.forms.Form.{Form}
 use Rattle.roll_core.specs.declared.forms.Form.TheVariants.{Own, Paired, Left, Trimmed}

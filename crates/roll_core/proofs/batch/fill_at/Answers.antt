@@ -1,10 +1,8 @@
 use Rattle.std.proofs.Common.{◌≡◌, ◌∙◌, Some, ap, map, sym, subst}
 use Rattle.std.specs.Prelude.{slice_get}
-use Rattle.row_rules.specs.Site as sites
 use Rattle.machine.specs.Plain as plain
 use Rattle.machine.specs.State.{filling_site, shared}
 use Rattle.row_rules.specs.declared.kinds.Job.{Job}
-use Rattle.row_rules.specs.declared.kinds.Job.TheVariants as job
 use Rattle.row_rules.specs.Site.{Site}
 use Rattle.roll_core.specs.declared.store.StoredTable.{StoredTable}
 use Rattle.roll_core.specs.Batch.{FillsThrough}

@@ -1,4 +1,4 @@
-use Rattle.std.proofs.Common.{ap, map, sym}
+use Rattle.std.proofs.Common.{ap, map}
 use Rattle.roll_core.specs.Batch.{batch_at}
 use Rattle.roll_core.specs.Seen.{seen}
 use Rattle.roll_core.proofs.Filling.{none_filled}

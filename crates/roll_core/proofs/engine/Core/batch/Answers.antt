@@ -1,4 +1,4 @@
-use Rattle.std.proofs.Common.{◌≡◌, ◌∙◌, false, length, map, sym, ap, subst, refl}
+use Rattle.std.proofs.Common.{◌≡◌, ◌∙◌, false, length, map, sym, ap, subst}
 use Rattle.machine.specs.declared.events.Event.TheVariants.{Fill}
 use Rattle.machine.specs.Follows.{goes_on_filling}
 use Rattle.machine.specs.Step.{LaneStep}
