@@ -153,18 +153,6 @@ stores law frame tables at n f runs all e =
 pub filled : FillingHolds → (frame : State) (tables : List OwnTable) (at n : ℕ) (f : Filling frame tables at) → Runs frame (map seen tables) → (result : Result Reply (Stop Reply)) (new : List StoredTable) → FillsThrough (filling_site frame f.both) job.Fill at n tables result new → Fills frame (map seen tables) (batch_at frame (map seen tables) (Some at) n) result new
 filled law frame tables at n f runs result new h = by_result result h
   where
-    s : State
-    s = meant frame (map seen tables)
-
-    number : ℕ
-    number = f.table.number
-
-    rows : List Kept
-    rows = rows_meant (seen f.table)
-
-    outcome : CommandOutcome
-    outcome = batch_at frame (map seen tables) (Some at) n
-
     got : slice_get (map seen tables) at ≡ Some (seen f.table)
     got = got_mapped seen tables at f.table f.here
 
