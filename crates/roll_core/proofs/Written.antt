@@ -38,7 +38,7 @@ fresh_weigh form rows site (row ∷ new) f p =
     let none = none_there (finite.get rows row.key) (has_key-stored form row.key rows ∙ f.0) in
     (subst (λ before. WeighsOver form before row.lost) (sym none) p.0.weighs, fresh_weigh form rows site new f.1 p.1)
 
-placed_weigh : (form : Form) (rows : Rows) (site : Site) (all : List Change) → Each (OfPut (Placed (Weighs form rows) site)) all → Each (OfPut (λ row. Weighs form rows row.key row.lost)) all
+pub placed_weigh : (form : Form) (rows : Rows) (site : Site) (all : List Change) → Each (OfPut (Placed (Weighs form rows) site)) all → Each (OfPut (λ row. Weighs form rows row.key row.lost)) all
 placed_weigh form rows site [] h = tt
 placed_weigh form rows site (Put row ∷ all) h = (h.0.weighs, placed_weigh form rows site all h.1)
 placed_weigh form rows site (Remove key ∷ all) h = (tt, placed_weigh form rows site all h.1)

@@ -1,3 +1,4 @@
+pub mod Batch
 pub mod Changing
 pub mod Engine
 pub mod Running

@@ -11,6 +11,7 @@ ghost use Rattle.roll_core.specs.Running as running;
 ghost use Rattle.roll_core.specs.Stepping as stepping;
 ghost use Rattle.roll_core.specs.Store.{meaning};
 
+use crate::batch::least_fill;
 use crate::commands::{Cmd, run};
 use crate::forms::Form;
 use crate::statement::answer;
@@ -113,8 +114,12 @@ impl Core {
         ensures step { LaneStep (meaning self.old) (Fill n) result (meaning self.new) }
         ensures machine { Step (meaning self.old) (Fill n) result (meaning self.new) }
         ensures refused { goes_on_filling result ≡ false → self.new ≡ self.old }
+        ensures keeps { (self.new.frame ≡ self.old.frame) × (self.new.former ≡ self.old.former) }
     {
-        no_memory()
+        machine::laws::states_stand();
+        machine::laws::states_stay_lawful();
+        machine::laws::lane_runs_are_runs();
+        replied(least_fill(self.alloc, &self.frame, &mut self.tables, n))
     }
 
     /// A command of a migration is one step of the machine. An accepted one stores exactly what its step leaves: START the

@@ -5,6 +5,7 @@
 //! state, and what is stored of a row that is written.
 #![tactic(auto)]
 
+mod batch;
 mod changing;
 mod commands;
 mod complete;
