@@ -1,6 +1,5 @@
 pub mod Growing
 pub mod HalvesFit
-pub mod MadeHalves
 pub mod Places
 pub mod Planned
 pub mod PlansWantNothing
