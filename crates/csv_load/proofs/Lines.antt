@@ -1,9 +1,8 @@
 -- A header and the records behind it.
-use Rattle.std.proofs.Common.{◌≡◌, ℕ, suc, List, [], ◌∷◌, length, take, drop, get_or, ◌≤◌, ◌-◌, arith, Bool, true, false, Option, None, Some, Err, cond, refl, sym, ap, ◌∙◌, subst, is_some}
+use Rattle.std.proofs.Common.{◌≡◌, ℕ, suc, List, [], ◌∷◌, length, take, drop, get_or, ◌≤◌, ◌-◌, arith, Bool, true, false, Option, None, Some, cond, refl, sym, ap, ◌∙◌, subst, is_some}
 use Rattle.std.proofs.Math.Seq.{take-length}
 use Rattle.std.specs.List.{cons_option, filter_map}
 use Rattle.sql_base.specs.Laws.{both, some_same}
-use Rattle.sql_base.specs.declared.faults.ScriptFault.TheVariants.{Line}
 use Rattle.sql_base.specs.declared.shapes.Shape.{Shape}
 use Rattle.sql_text.specs.Identifier.{name_in}
 use Rattle.csv_load.specs.Load.{is_header, load_rows}
@@ -23,10 +22,6 @@ named : (t : Bool) (all names : List (List ℕ)) → cond t (Some all) None ≡ 
 named true all names h = (refl, some_same all names h)
 named false all names h = cc
 
-unnamed : (t : Bool) (all : List (List ℕ)) → cond t (Some all) None ≡ None → t ≡ false
-unnamed true all h = cc
-unnamed false all h = refl
-
 -- Behind a header the records are read.
 pub load_named : (table : List ℕ) (shape : Option Shape) (header names : List (List ℕ)) (rows : List (List (List ℕ))) →
     names_of header ≡ Some names → load_rows table shape (header ∷ rows) ≡ lines_from table shape names 2 [] rows
@@ -34,12 +29,6 @@ load_named table shape header names rows h =
     let is = named (is_header header) (filter_map name_in header) names h in
     let width = found_all header is.0 in
     subst (λ ns. load_rows table shape (header ∷ rows) ≡ lines_from table shape ns 2 [] rows) is.1 (rw (is.0, width) refl)
-
-pub load_unnamed : (table : List ℕ) (shape : Option Shape) (header : List (List ℕ)) (rows : List (List (List ℕ))) →
-    names_of header ≡ None → load_rows table shape (header ∷ rows) ≡ Err (Line 1)
-load_unnamed table shape header rows h =
-    let is = unnamed (is_header header) (filter_map name_in header) h in
-    rw is refl
 
 -- The first one of some, and the others.
 pub first_and_rest : {X : Type 0} (xs : List X) (x : X) → 1 ≤ length xs → x ≡ get_or xs 0 x → xs ≡ x ∷ take (length xs - 1) (drop 1 xs)
