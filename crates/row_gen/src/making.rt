@@ -1,9 +1,7 @@
 //! The text of a workload.
-ghost use Rattle.std.specs.Prelude.{◌≡◌, ◌+◌, ◌≤◌, ◌∷◌, ◌++◌, length, IfOk, OnOk};
-ghost use Rattle.std.specs.List.{range_with_len};
-ghost use Rattle.row_gen.specs.Draws.{state_after};
+ghost use Rattle.std.specs.Prelude.{◌≡◌, ◌≤◌, ◌++◌, IfOk, OnOk};
 ghost use Rattle.row_gen.specs.Listing as spec;
-ghost use Rattle.row_gen.specs.Steps.{people_from, statements_from};
+ghost use Rattle.row_gen.specs.Steps.{lane_text, people_from, state_behind, statements_text};
 
 use crate::draws::Draws;
 use crate::lines::{alter_age, create_people, insert_person, lane_head, push_line, statement};
@@ -65,7 +63,8 @@ fn push_statements(
 ) -> Result<(), NoMemory>
     requires rows { rows ≤ 100000 }
     requires lanes { 1 ≤ lanes }
-    ensures { OnOk result (let keys = spec.keys_of rows lanes lane in (out.new.items ≡ out.old.items ++ spec.text_of (statements_from draws.old.state rows keys)) × (draws.new.state ≡ state_after draws.old.state (length keys))) }
+    ensures text { OnOk result (out.new.items ≡ out.old.items ++ statements_text draws.old.state rows lanes lane) }
+    ensures state { OnOk result (draws.new.state ≡ state_behind draws.old.state rows lanes lane) }
 {
     for key in 1..rows + 1 {
         if key % lanes == lane {
@@ -87,7 +86,8 @@ fn push_lane(
 ) -> Result<(), NoMemory>
     requires rows { rows ≤ 100000 }
     requires lanes { 1 ≤ lanes }
-    ensures { OnOk result (let keys = spec.keys_of rows lanes lane in (out.new.items ≡ out.old.items ++ spec.text_of (spec.lane_head lane ∷ statements_from draws.old.state rows keys)) × (draws.new.state ≡ state_after draws.old.state (length keys))) }
+    ensures text { OnOk result (out.new.items ≡ out.old.items ++ lane_text draws.old.state rows lanes lane) }
+    ensures state { OnOk result (draws.new.state ≡ state_behind draws.old.state rows lanes lane) }
 {
     push_line(out, lane_head(alloc, lane)?.as_str())?;
     push_statements(out, alloc, draws, rows, lanes, lane)

@@ -22,10 +22,10 @@ loop-lane-preserved c =
     let rest = text_of (flat_map lines_of (range_with_len (lane + 1) (c.args.lanes - (lane + 1)))) in
     let state = c.loop-lane.invariant.state in
     let lines = lane_is c.args.draws.now.state c.loop-lane.draws.state c.args.rows c.args.lanes lane state in
-    let pushed = c.in_ok-push_lane.ensures.0 ∙ ap (λ ls. out ++ text_of ls) (sym lines) in
+    let pushed = c.in_ok-push_lane.ensures.text ∙ ap (λ ls. out ++ text_of ls) (sym lines) in
     record {
       text = ap (λ b. b ++ rest) pushed ∙ sym (one_more_lane lines_of out lane c.args.lanes c.loop-lane-test.true) ∙ c.loop-lane.invariant.text;
-      state = states_more c.args.draws.now.state c.loop-lane.draws.state c.push_lane.new.draws.state c.args.rows c.args.lanes lane state c.in_ok-push_lane.ensures.1;
+      state = states_more c.args.draws.now.state c.loop-lane.draws.state c.push_lane.new.draws.state c.args.rows c.args.lanes lane state c.in_ok-push_lane.ensures.state;
     }
 
 pub returns : goal.returns

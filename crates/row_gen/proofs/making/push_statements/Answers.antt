@@ -32,4 +32,4 @@ returns c =
     ap (λ k. keys_from k c.args.rows c.args.lanes c.args.lane) last ∙ no_more_keys c.args.rows c.args.lanes c.args.lane in
     let text = rw keys at c.loop-key.invariant.text in
     let state = rw keys at c.loop-key.invariant.state in
-    (sym (append-nil c.loop-key.out.items) ∙ text, state)
+    record { text = sym (append-nil c.loop-key.out.items) ∙ text; state = state }
