@@ -84,7 +84,8 @@ fn lines(
     rows: &[ByteRecord],
 ) -> Result<List<Loaded>, ScriptFault>
     requires { length rows.now ≤ 16777216 }
-    ensures { Gives ScriptFault.NoMemory (steps.lines_from table.now (option_copied shape.entry) names.now 2 [] (map fields_of rows.now)) result }
+    ensures few { IfOk result (λ lines. length lines ≤ length rows.now) }
+    ensures reading { Gives ScriptFault.NoMemory (steps.lines_from table.now (option_copied shape.entry) names.now 2 [] (map fields_of rows.now)) result }
 {
     let mut lines = List::new(alloc);
     let mut number = 1;
@@ -116,7 +117,8 @@ pub fn load(
     shape: Option<&Shape>,
 ) -> Result<List<Loaded>, ScriptFault>
     requires { length text.now ≤ 16777216 }
-    ensures { Gives ScriptFault.NoMemory (spec.load_of table.now (option_copied shape.entry) text.now) result }
+    ensures few { IfOk result (λ lines. length lines ≤ length text.now) }
+    ensures reading { Gives ScriptFault.NoMemory (spec.load_of table.now (option_copied shape.entry) text.now) result }
 {
     let rows = records(alloc, text)?;
     let [header, rows @ ..] = rows.as_slice() else {
