@@ -21,11 +21,15 @@ None >>= next = None
 abbrev pub Read : Type 0 → Type 0
 Read X = Option (X × List ℕ)
 
--- The answer, seen by view, is what is read, and `Bad` exactly where nothing is, but for want of memory.
+-- `Bad` comes exactly where nothing is read; want of memory is free.
+abbrev pub Fails : {Y : Type 0} → RecordFault → Option Y → Type 0
+Fails fault.Bad read = read ≡ None
+Fails fault.NoMemory read = Unit {0}
+
+-- The answer, seen by view, is what is read.
 abbrev pub Reads : {X Y : Type 0} → (X → Y) → Result X RecordFault → Option Y → Type 0
 Reads view (Ok x) read = read ≡ Some (view x)
-Reads view (Err fault.Bad) read = read ≡ None
-Reads view (Err fault.NoMemory) read = Unit {0}
+Reads view (Err e) read = Fails e read
 
 -- ---- fields
 
@@ -81,11 +85,16 @@ truth_at bytes = do
   b ← byte_at bytes
   if b.0 == 0 then Some (Truth false, b.1) else (if b.0 == 1 then Some (Truth true, b.1) else None)
 
+abbrev pub int_value_at : List ℕ → Read Value
+int_value_at bytes = do
+  n ← int_at bytes
+  Some (Int n.0, n.1)
+
 -- what stands behind the byte of a value's kind
 abbrev pub value_behind : ℕ → List ℕ → Read Value
 value_behind kind rest =
     if kind == 0 then Some (Null, rest)
-    else (if kind == 1 then (int_at rest >>= λ n. Some (Int n.0, n.1))
+    else (if kind == 1 then int_value_at rest
     else (if kind == 2 then text_at rest
     else (if kind == 3 then truth_at rest else None)))
 
@@ -94,11 +103,16 @@ value_at bytes = do
   kind ← byte_at bytes
   value_behind kind.0 kind.1
 
+abbrev pub stored_at : List ℕ → Read (Option (List Value))
+stored_at bytes = do
+  values ← counted_at w16 value_at bytes
+  Some (Some values.0, values.1)
+
 -- what stands behind the byte that says whether a row is stored
 abbrev pub rest_behind : ℕ → List ℕ → Read (Option (List Value))
 rest_behind flag rest =
     if flag == 0 then Some (None, rest)
-    else (if flag == 1 then (counted_at w16 value_at rest >>= λ values. Some (Some values.0, values.1)) else None)
+    else (if flag == 1 then stored_at rest else None)
 
 unfoldable pub rest_at : List ℕ → Read (Option (List Value))
 rest_at bytes = do

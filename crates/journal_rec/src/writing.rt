@@ -1,7 +1,7 @@
 //! Records written as bodies.
 ghost use Rattle.std.specs.Prelude.{◌≡◌, ◌++◌, [], ◌∷◌, ◌<◌, ◌^◌, length, IfOk, OnOk, IfSome};
 ghost use Rattle.std.specs.List.{All, flat_map};
-ghost use Rattle.journal_rec.specs.Body.{IsBody, Fits, ValueFits, ValuesFit, RowFits, IsProperValue, IsProperRow, body_of, value_bytes, values_bytes, rest_bytes, row_bytes};
+ghost use Rattle.journal_rec.specs.Body.{IsBody, Fits, IsProper, ValueFits, ValuesFit, RowFits, IsProperValue, IsProperRow, body_of, value_bytes, rest_bytes, row_bytes};
 ghost use Rattle.journal_rec.specs.Size.{body_size};
 
 use crate::records::{Record, RecordedRow};
@@ -33,11 +33,10 @@ fn push_value(out: &mut Vec<u8>, value: &Value) -> Result<(), NoMemory>
 }
 
 fn push_values(out: &mut Vec<u8>, values: &[Value]) -> Result<(), NoMemory>
-    requires { ValuesFit values.now }
-    ensures written { OnOk result (out.new.items ≡ out.old.items ++ values_bytes values.now) }
+    requires { All ValueFits values.now }
+    ensures written { OnOk result (out.new.items ≡ out.old.items ++ flat_map value_bytes values.now) }
     ensures proper { OnOk result (All IsProperValue values.now) }
 {
-    out.extend_from_slice(&(values.len() as u16).to_be_bytes())?;
     for value in values {
         push_value(out, value)?;
     }
@@ -53,6 +52,7 @@ fn push_rest(out: &mut Vec<u8>, values: &Option<List<Value>>) -> Result<(), NoMe
         None => out.push(0)?,
         Some(values) => {
             out.push(1)?;
+            out.extend_from_slice(&(values.len() as u16).to_be_bytes())?;
             push_values(out, values.as_slice())?;
         }
     }
@@ -90,28 +90,37 @@ fn push_start(out: &mut Vec<u8>, text: &[u8]) -> Result<(), NoMemory>
     Ok(())
 }
 
-/// The body of a record. An error is want of memory.
-///
-/// The record is to have one: its texts are shorter than their lengths can say, it has a row, its keys ascend, and a
-/// step is one of the five. How many bytes the body has is `body_size` of the record.
-pub fn write_record(alloc: Global, record: &Record) -> Result<SqlBytes, NoMemory>
-    requires { Fits record.now }
-    ensures body { IfOk result (λ body. IsBody body record.now) }
-    ensures size { IfOk result (λ body. length body ≡ body_size record.now) }
+fn push_body(out: &mut Vec<u8>, change: &Record) -> Result<(), NoMemory>
+    requires { Fits change.now }
+    ensures written { OnOk result (out.new.items ≡ out.old.items ++ body_of change.now) }
+    ensures proper { OnOk result (IsProper change.now) }
 {
-    let mut out = Vec::new(alloc);
-    match record {
-        Record::Start(text) => push_start(&mut out, text.as_slice())?,
+    match change {
+        Record::Start(text) => push_start(out, text.as_slice())?,
         Record::Rows { table, rows } => {
             out.push(2)?;
             out.extend_from_slice(&table.to_be_bytes())?;
             out.extend_from_slice(&(rows.len() as u32).to_be_bytes())?;
-            push_rows(&mut out, rows.as_slice())?;
+            push_rows(out, rows.as_slice())?;
         }
         Record::Step(kind) => {
             out.push(3)?;
             out.push(*kind)?;
         }
     }
+    Ok(())
+}
+
+/// The body of a record. An error is want of memory.
+///
+/// The record is to have one (`Fits`): a text is shorter than its length can say, there is a row, the keys ascend,
+/// and a step is one of the five.
+pub fn write_record(alloc: Global, change: &Record) -> Result<SqlBytes, NoMemory>
+    requires { Fits change.now }
+    ensures body { IfOk result (λ body. IsBody body change.now) }
+    ensures size { IfOk result (λ body. length body ≡ body_size change.now) }
+{
+    let mut out = Vec::new(alloc);
+    push_body(&mut out, change)?;
     Ok(SqlBytes::from_vec(out))
 }

@@ -1,0 +1,36 @@
+-- How many bytes a body has.
+use Rattle.std.proofs.Common.{◌≡◌, ℕ, ◌+◌, List, [], ◌∷◌, ◌++◌, length, Option, Some, None, refl, sym, ap, ◌∙◌, true, false, arith}
+use Rattle.std.specs.Int.{w16, w32, to_be_bytes}
+use Rattle.std.specs.List.{sum_by, flat_map}
+use Rattle.std.proofs.lemmas.List.{length-append}
+use Rattle.std.proofs.lemmas.List.Concat.{length-flat_map}
+use Rattle.sql_base.specs.Weight.{value_weight, weight}
+use Rattle.sql_base.specs.declared.values.Value.{Value}
+use Rattle.sql_base.specs.declared.values.Value.TheVariants.{Null, Int, Text, Bool as Truth}
+use Rattle.journal_rec.specs.declared.records.Record.{Record}
+use Rattle.journal_rec.specs.declared.records.Record.TheVariants.{Start, Rows, Step}
+use Rattle.journal_rec.specs.declared.records.RecordedRow.{RecordedRow}
+use Rattle.journal_rec.specs.Body.{int_bytes, value_bytes, values_bytes, rest_bytes, row_bytes, counted_bytes, counted, body_of}
+use Rattle.journal_rec.specs.Size.{values_size, row_size, body_size}
+
+of_value : (v : Value) → length (value_bytes v) ≡ value_weight v
+of_value Null = refl
+of_value (Int n) = refl
+of_value (Text bytes) = omega arith
+of_value (Truth false) = refl
+of_value (Truth true) = refl
+
+of_each : {X : Type 0} (form : X → List ℕ) (size : X → ℕ) → ((x : X) → length (form x) ≡ size x) → (xs : List X) → length (flat_map form xs) ≡ sum_by size xs
+of_each {X} form size each xs = length-flat_map form xs ∙ ap (λ (f : X → ℕ). sum_by f xs) (λ i x. each x i)
+
+of_rest : (values : Option (List Value)) → length (rest_bytes values) ≡ 1 + values_size values
+of_rest None = refl
+of_rest (Some values) = omega (arith, of_each value_bytes value_weight of_value values)
+
+of_row : (row : RecordedRow) → length (row_bytes row) ≡ row_size row
+of_row row = omega (arith, length-append (int_bytes row.key) (rest_bytes row.values), of_rest row.values)
+
+pub of_body : (r : Record) → length (body_of r) ≡ body_size r
+of_body (Start text) = omega arith
+of_body (Rows table rows) = omega (arith, of_each row_bytes row_size of_row rows)
+of_body (Step kind) = refl
