@@ -55,8 +55,8 @@ rows_take b bs r all kind_is e =
     let in_order = both (ltb 0 (length l.0.0)) (ascend l.0.0) tests in
     subst (IsBody (b ∷ bs)) (ap (Rows a.0.0) last.1 ∙ g.1)
     (behind_kind b 2 bs (to_be_bytes w32 a.0.0 ++ counted w32 row_bytes l.0.0) l.0.1 (Rows a.0.0 l.0.0) refl kind_is
-        (n.parts ∙ ap (λ (x : List ℕ). to_be_bytes w32 a.0.0 ++ x) t.parts ∙ sym (append_assoc (to_be_bytes w32 a.0.0) (counted w32 row_bytes l.0.0) l.0.1)) last.0
-        (record { some = ltb-true _ _ in_order.0; few = t.has.0.0; in_order = in_order.1; each = t.has.0.1 }) (n.has, t.has.1))
+    (n.parts ∙ ap (λ (x : List ℕ). to_be_bytes w32 a.0.0 ++ x) t.parts ∙ sym (append_assoc (to_be_bytes w32 a.0.0) (counted w32 row_bytes l.0.0) l.0.1)) last.0
+    (record { some = ltb-true _ _ in_order.0; few = t.has.0.0; in_order = in_order.1; each = t.has.0.1 }) (n.has, t.has.1))
 
 step_takes : (b : ℕ) (bs : List ℕ) (r : Record) → eqb b 3 ≡ true → step_in bs ≡ Some r → IsBody (b ∷ bs) r
 unfolding step_in
@@ -79,9 +79,9 @@ body_read (b ∷ bs) r all e =
     let rows = cond (eqb b 2) (rows_in bs) steps in
     ⊎_elim (λ start. start_takes b bs r tail start.0 start.1)
     (λ more. ⊎_elim (λ written. rows_take b bs r tail written.0 written.1)
-        (λ others. ⊎_elim (λ step. step_takes b bs r step.0 step.1) (λ none. absurd (none-some _ none.1))
-            (chosen (eqb b 3) (step_in bs) None (Some r) others.1))
-        (chosen (eqb b 2) (rows_in bs) steps (Some r) more.1))
+    (λ others. ⊎_elim (λ step. step_takes b bs r step.0 step.1) (λ none. absurd (none-some _ none.1))
+    (chosen (eqb b 3) (step_in bs) None (Some r) others.1))
+    (chosen (eqb b 2) (rows_in bs) steps (Some r) more.1))
     (chosen (eqb b 1) (start_in bs) rows (Some r) e)
 
 -- ---- again

@@ -39,10 +39,10 @@ truth_takes b [] v rest kind_is e = absurd (none-some _ e)
 truth_takes b (t ∷ bs) v rest kind_is e =
     ⊎_elim
     (λ no. subst (λ (p : Value × List ℕ). Took value_bytes ValueHas (b ∷ t ∷ bs) p.0 p.1) (same_Some (Truth false, bs) (v, rest) no.1)
-        (behind_kind value_bytes ValueHas b 3 (t ∷ bs) (0 ∷ []) (Truth false) bs refl kind_is (ap (λ (k : ℕ). k ∷ bs) (eqb-true t 0 no.0)) (tt, tt)))
+    (behind_kind value_bytes ValueHas b 3 (t ∷ bs) (0 ∷ []) (Truth false) bs refl kind_is (ap (λ (k : ℕ). k ∷ bs) (eqb-true t 0 no.0)) (tt, tt)))
     (λ other. let g = cond_some (eqb t 1) (Truth true, bs) (v, rest) other.1 in
-        subst (λ (p : Value × List ℕ). Took value_bytes ValueHas (b ∷ t ∷ bs) p.0 p.1) g.1
-        (behind_kind value_bytes ValueHas b 3 (t ∷ bs) (1 ∷ []) (Truth true) bs refl kind_is (ap (λ (k : ℕ). k ∷ bs) (eqb-true t 1 g.0)) (tt, tt)))
+    subst (λ (p : Value × List ℕ). Took value_bytes ValueHas (b ∷ t ∷ bs) p.0 p.1) g.1
+    (behind_kind value_bytes ValueHas b 3 (t ∷ bs) (1 ∷ []) (Truth true) bs refl kind_is (ap (λ (k : ℕ). k ∷ bs) (eqb-true t 1 g.0)) (tt, tt)))
     (chosen (eqb t 0) (Some (Truth false, bs)) (cond (eqb t 1) (Some (Truth true, bs)) None) (Some (v, rest)) e)
 
 int_case : (b : ℕ) (bs : List ℕ) (v : Value) (rest : List ℕ) → IsBytes bs → eqb b 1 ≡ true → int_value_at bs ≡ Some (v, rest) → Took value_bytes ValueHas (b ∷ bs) v rest
@@ -62,13 +62,13 @@ value_takes (b ∷ bs) v rest all e =
     let numbers = cond (eqb b 1) (int_value_at bs) texts in
     ⊎_elim
     (λ null. subst (λ (p : Value × List ℕ). Took value_bytes ValueHas (b ∷ bs) p.0 p.1) (same_Some (Null, bs) (v, rest) null.1)
-        (behind_kind value_bytes ValueHas b 0 bs [] Null bs refl null.0 refl (tt, tt)))
+    (behind_kind value_bytes ValueHas b 0 bs [] Null bs refl null.0 refl (tt, tt)))
     (λ more. ⊎_elim (λ number. int_case b bs v rest tail number.0 number.1)
-        (λ others. ⊎_elim (λ text. text_takes b bs v rest tail text.0 text.1)
-            (λ last. ⊎_elim (λ t. truth_takes b bs v rest t.0 t.1) (λ none. absurd (none-some _ none.1))
-                (chosen (eqb b 3) (truth_at bs) None (Some (v, rest)) last.1))
-            (chosen (eqb b 2) (text_at bs) truth (Some (v, rest)) others.1))
-        (chosen (eqb b 1) (int_value_at bs) texts (Some (v, rest)) more.1))
+    (λ others. ⊎_elim (λ text. text_takes b bs v rest tail text.0 text.1)
+    (λ last. ⊎_elim (λ t. truth_takes b bs v rest t.0 t.1) (λ none. absurd (none-some _ none.1))
+    (chosen (eqb b 3) (truth_at bs) None (Some (v, rest)) last.1))
+    (chosen (eqb b 2) (text_at bs) truth (Some (v, rest)) others.1))
+    (chosen (eqb b 1) (int_value_at bs) texts (Some (v, rest)) more.1))
     (chosen (eqb b 0) (Some (Null, bs)) numbers (Some (v, rest)) e)
 
 text_again : (text rest : List ℕ) → length text < 2 ^ 16 → IsText text → text_at (counted_bytes w16 text ++ rest) ≡ Some (Text text, rest)
@@ -100,15 +100,15 @@ rest_takes [] values rest all e = absurd (none-some _ e)
 rest_takes (b ∷ bs) values rest all e =
     ⊎_elim
     (λ gone. subst (λ (p : Option (List Value) × List ℕ). Took rest_bytes RestHas (b ∷ bs) p.0 p.1) (same_Some (None, bs) (values, rest) gone.1)
-        (behind_kind rest_bytes RestHas b 0 bs [] None bs refl gone.0 refl (tt, tt)))
+    (behind_kind rest_bytes RestHas b 0 bs [] None bs refl gone.0 refl (tt, tt)))
     (λ more. ⊎_elim
-        (λ there.
-            let a = bind_some (counted_at w16 value_at bs) (λ row. Some (Some row.0, row.1)) (values, rest) there.1 in
-            let t = values_form.takes bs a.0.0 a.0.1 (λ i. all (suc i)) a.1 in
-            subst (λ (p : Option (List Value) × List ℕ). Took rest_bytes RestHas (b ∷ bs) p.0 p.1) (same_Some (Some a.0.0, a.0.1) (values, rest) a.2)
-            (behind_kind rest_bytes RestHas b 1 bs (values_bytes a.0.0) (Some a.0.0) a.0.1 refl there.0 t.parts t.has))
-        (λ none. absurd (none-some _ none.1))
-        (chosen (eqb b 1) (stored_at bs) None (Some (values, rest)) more.1))
+    (λ there.
+    let a = bind_some (counted_at w16 value_at bs) (λ row. Some (Some row.0, row.1)) (values, rest) there.1 in
+    let t = values_form.takes bs a.0.0 a.0.1 (λ i. all (suc i)) a.1 in
+    subst (λ (p : Option (List Value) × List ℕ). Took rest_bytes RestHas (b ∷ bs) p.0 p.1) (same_Some (Some a.0.0, a.0.1) (values, rest) a.2)
+    (behind_kind rest_bytes RestHas b 1 bs (values_bytes a.0.0) (Some a.0.0) a.0.1 refl there.0 t.parts t.has))
+    (λ none. absurd (none-some _ none.1))
+    (chosen (eqb b 1) (stored_at bs) None (Some (values, rest)) more.1))
     (chosen (eqb b 0) (Some (None, bs)) (cond (eqb b 1) (stored_at bs) None) (Some (values, rest)) e)
 
 rest_again : (values : Option (List Value)) (rest : List ℕ) → RestHas values → rest_at (rest_bytes values ++ rest) ≡ Some (values, rest)

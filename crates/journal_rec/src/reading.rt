@@ -53,11 +53,7 @@ fn value_of(alloc: Global, bytes: &[u8]) -> Result<(Value, &[u8]), RecordFault>
     }
 }
 
-fn values_of(
-    alloc: Global,
-    count: u16,
-    bytes: &[u8],
-) -> Result<(List<Value>, &[u8]), RecordFault>
+fn values_of(alloc: Global, count: u16, bytes: &[u8]) -> Result<(List<Value>, &[u8]), RecordFault>
     ensures { Reads (λ x. (x.0, x.1.now)) result (times value_at count bytes.now) }
 {
     let mut values = List::new(alloc);

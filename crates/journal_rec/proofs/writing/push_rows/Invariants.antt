@@ -6,5 +6,5 @@ use Rattle.journal_rec.proofs.writing.push_rows.Given as goal
 abbrev pub invariant-loop-row : goal.invariant-loop-row
 invariant-loop-row l = record {
   written : l.out.items ≡ l.initial.out.items ++ flat_map row_bytes (take l.row-index l.rows);
-  proper : All IsProperRow (take l.row-index l.rows)
+  proper : All IsProperRow (take l.row-index l.rows);
 }

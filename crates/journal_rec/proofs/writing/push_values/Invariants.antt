@@ -6,5 +6,5 @@ use Rattle.journal_rec.proofs.writing.push_values.Given as goal
 abbrev pub invariant-loop-value : goal.invariant-loop-value
 invariant-loop-value l = record {
   written : l.out.items ≡ l.initial.out.items ++ flat_map value_bytes (take l.value-index l.values);
-  proper : All IsProperValue (take l.value-index l.values)
+  proper : All IsProperValue (take l.value-index l.values);
 }
