@@ -1,7 +1,7 @@
 //! A disk in memory that keeps its calls, some of which are to fail.
 ghost use Rattle.std.specs.Prelude.{◌≡◌, ◌⊎◌, ◌↔◌, ◌≤◌, ◌+◌, ◌++◌, [], ◌∷◌, length, take, drop, IfOk, OnOk, OnErr, IsTrue, IsErr, Contains};
 ghost use Rattle.std.specs.Bool.{OnTrue, OnFalse};
-ghost use Rattle.pg_io.specs.Causes.{HasCause, one_more};
+ghost use Rattle.pg_io.specs.Causes.{HasExactCause, one_more};
 ghost use Rattle.pg_io.specs.Disk.{Holds, Torn, Shortened, Follows, Only, Within, Ticks, Still};
 ghost use Rattle.pg_io.specs.Replay.{DiskInMemory, replay, seen_of, images_of, moment_of, since_of, reads_image, counts_image, only_image, Same, Made, MayMake, Writes, MayWrite, Puts, Counts};
 
@@ -239,7 +239,7 @@ impl Disk for MemDisk {
     fn len(&mut self) -> Result<u64, Failed>
         ensures len { IfOk result (λ n. n ≡ length (seen_of self.old)) }
         ensures still { Still moment_of seen_of images_of since_of self.old self.new }
-        ensures cause { HasCause self.old.faults self.new.faults result }
+        ensures cause { HasExactCause self.old.faults self.new.faults result }
         ensures due { IsErr result ↔ Contains self.old.failing self.old.made }
         ensures same { Same self.old self.new }
         ensures counts { Counts self.old self.new result }
@@ -254,7 +254,7 @@ impl Disk for MemDisk {
         requires { at + length buf.old ≤ length (seen_of self.old) }
         ensures bytes { OnOk result (buf.new ≡ take (length buf.old) (drop at (seen_of self.old))) }
         ensures still { Still moment_of seen_of images_of since_of self.old self.new }
-        ensures cause { HasCause self.old.faults self.new.faults result }
+        ensures cause { HasExactCause self.old.faults self.new.faults result }
         ensures due { IsErr result ↔ Contains self.old.failing self.old.made }
         ensures same { Same self.old self.new }
         ensures counts { Counts self.old self.new result }
@@ -272,7 +272,7 @@ impl Disk for MemDisk {
         ensures torn { OnErr result (Torn at (length bytes.now) (seen_of self.old) (seen_of self.new)) }
         ensures crash { Follows (Torn at (length bytes.now)) (images_of self.old) (since_of self.new (moment_of self.old)) }
         ensures time { Ticks moment_of seen_of images_of since_of self.old self.new }
-        ensures cause { HasCause self.old.faults self.new.faults result }
+        ensures cause { HasExactCause self.old.faults self.new.faults result }
         ensures kept { OnOk result (Writes at bytes.now self.old self.new) }
         ensures counts { Counts self.old self.new result }
     {
@@ -286,7 +286,7 @@ impl Disk for MemDisk {
         ensures cut_or_not { OnErr result ((seen_of self.new ≡ seen_of self.old) ⊎ (seen_of self.new ≡ take len (seen_of self.old))) }
         ensures crash { Follows (Shortened len) (images_of self.old) (since_of self.new (moment_of self.old)) }
         ensures time { Ticks moment_of seen_of images_of since_of self.old self.new }
-        ensures cause { HasCause self.old.faults self.new.faults result }
+        ensures cause { HasExactCause self.old.faults self.new.faults result }
         ensures kept { OnOk result (Made (Call.Cut len) self.old self.new) }
         ensures counts { Counts self.old self.new result }
     {
@@ -299,7 +299,7 @@ impl Disk for MemDisk {
         ensures seen { seen_of self.new ≡ seen_of self.old }
         ensures crash { Within (since_of self.new (moment_of self.old)) (images_of self.old) }
         ensures time { Ticks moment_of seen_of images_of since_of self.old self.new }
-        ensures cause { HasCause self.old.faults self.new.faults result }
+        ensures cause { HasExactCause self.old.faults self.new.faults result }
         ensures kept { OnOk result (Made Call.Synced self.old self.new) }
         ensures counts { Counts self.old self.new result }
     {
