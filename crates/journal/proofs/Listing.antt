@@ -86,11 +86,13 @@ lacking rest lacks = cases (has_record rest) refl
         parts true true false d p q r s h = absurd cc
         parts true false c d p q r s h = absurd cc
         parts false b c d p q r s h = absurd cc
+
     clash : LacksRecord rest → (4 ≤ length rest) × (1 ≤ lead_of rest) × (lead_of rest ≤ 134217728) × (4 + lead_of rest ≤ length rest) → ⊥
     clash (inl cut) f = absurd (omega (arith, cut, f.0))
     clash (inr (inl none)) f = absurd (omega (arith, none, f.1))
     clash (inr (inr (inl above))) f = absurd (omega (arith, above, f.2))
     clash (inr (inr (inr past))) f = absurd (omega (arith, past, f.3))
+
     cases : (b : Bool) → has_record rest ≡ b → has_record rest ≡ false
     cases false h = h
     cases true h = absurd (clash lacks (fits h))

@@ -71,9 +71,9 @@ listed zero bytes = None
 listed (suc n) [] = None
 listed (suc n) (gate ∷ rest) =
     if gate == 1 then
-        (if has_record rest then
-            option_map (λ rs. take (lead_of rest) (drop 4 rest) ∷ rs) (listed n (drop (lead_of rest) (drop 4 rest)))
-        else None)
+    (if has_record rest then
+    option_map (λ rs. take (lead_of rest) (drop 4 rest) ∷ rs) (listed n (drop (lead_of rest) (drop 4 rest)))
+    else None)
     else Some []
 
 -- The records of a file, up to its first closed gate; none for bytes that are no journal, or have a bad record.

@@ -3,7 +3,7 @@ ghost use Rattle.std.specs.Prelude.{◌≡◌, ◌≢◌, ◌⊎◌, ◌<◌, �
 ghost use Rattle.pg_io.specs.Causes.{Rose};
 ghost use Rattle.pg_io.specs.Disk.{Only, Within, LeavesOnly, Still};
 ghost use Rattle.journal.specs.Attaching.{disk_of, WhyAttached, IsReading, LeavesThen, RoseIfFailed, PassedUnlessFailed};
-ghost use Rattle.journal.specs.Records.{IsRecord, IsPieceAt, IsShutAt, IsBadAt, Passes, Reads, BeginsAsJournal, behind_text, front, head, journal_in};
+ghost use Rattle.journal.specs.Records.{IsRecord, AreRecords, IsPieceAt, IsShutAt, IsBadAt, Passes, Reads, BeginsAsJournal, behind_text, front, head, journal_in};
 
 use crate::keeping::{KeepFault, Keeper};
 use crate::pieces::{JournalFault, read_piece};
@@ -213,6 +213,7 @@ impl<D: Disk> Journal<D> {
         ensures reads { D.tells → self.now.story.phase ≡ Phase.Standing → Reads (self.now.story.base ++ self.now.story.added) (D.seen self.now.story.disk) }
         ensures durable { D.tells → self.now.story.phase ≡ Phase.Standing → Only (D.seen self.now.story.disk) (D.may_leave self.now.story.disk) }
         ensures gate { D.tells → self.now.story.gate ≡ length (front (self.now.story.base ++ self.now.story.added)) }
+        ensures records { D.tells → AreRecords (self.now.story.base ++ self.now.story.added) }
     {
         let _ = &self.phase;
     }

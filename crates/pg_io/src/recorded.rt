@@ -3,7 +3,7 @@ ghost use Rattle.std.specs.Prelude.{◌≡◌, ◌⊎◌, ◌↔◌, ◌≤◌, 
 ghost use Rattle.std.specs.Bool.{OnTrue, OnFalse};
 ghost use Rattle.pg_io.specs.Causes.{HasExactCause, one_more};
 ghost use Rattle.pg_io.specs.Disk.{Holds, Torn, Shortened, Follows, Only, Within, Ticks, Still};
-ghost use Rattle.pg_io.specs.Replay.{DiskInMemory, replay, seen_of, images_of, moment_of, since_of, reads_image, counts_image, only_image, Same, Made, MayMake, Writes, MayWrite, Puts, Counts};
+ghost use Rattle.pg_io.specs.Replay.{DiskInMemory, replay, seen_of, images_of, moment_of, since_of, reads_image, counts_image, only_image, Same, Made, MayMake, Writes, MayWrite, MayWriteHalf, Puts, Counts};
 
 use crate::schedule::Schedule;
 use crate::{Disk, Failed};
@@ -26,6 +26,7 @@ pub enum Call {
 ///
 /// A write that is to fail leaves the front half of its bytes, a cut that is to fail is done all the same, and
 /// every other call that fails changes nothing. Where memory is wanting, a call counts a fault and changes nothing.
+/// Each call is counted, and what it changed is kept among the calls.
 #[derive(Drop)]
 pub struct MemDisk {
     alloc: Global,
@@ -163,6 +164,7 @@ impl MemDisk {
         requires { at ≤ length (seen_of self.old) }
         ensures written { OnOk result (Writes at bytes.now self.old self.new) }
         ensures torn { MayWrite at (length bytes.now) self.old self.new }
+        ensures half { OnErr result (MayWriteHalf at bytes.now self.old self.new) }
         ensures counts { Counts self.old self.new result }
     {
         if self.is_due() {
@@ -202,6 +204,7 @@ impl MemDisk {
     fn counted_sync(&mut self) -> Result<(), Failed>
         ensures synced { OnOk result (Made Call.Synced self.old self.new) }
         ensures synced_or_not { MayMake Call.Synced self.old self.new }
+        ensures same { OnErr result (Same self.old self.new) }
         ensures counts { Counts self.old self.new result }
     {
         if self.is_due() {
@@ -274,6 +277,7 @@ impl Disk for MemDisk {
         ensures time { Ticks moment_of seen_of images_of since_of self.old self.new }
         ensures cause { HasExactCause self.old.faults self.new.faults result }
         ensures kept { OnOk result (Writes at bytes.now self.old self.new) }
+        ensures half { OnErr result (MayWriteHalf at bytes.now self.old self.new) }
         ensures counts { Counts self.old self.new result }
     {
         self.counted_write(at, bytes)?;
@@ -288,6 +292,7 @@ impl Disk for MemDisk {
         ensures time { Ticks moment_of seen_of images_of since_of self.old self.new }
         ensures cause { HasExactCause self.old.faults self.new.faults result }
         ensures kept { OnOk result (Made (Call.Cut len) self.old self.new) }
+        ensures kept_or_not { MayMake (Call.Cut len) self.old self.new }
         ensures counts { Counts self.old self.new result }
     {
         self.counted_cut(len)?;
@@ -301,6 +306,7 @@ impl Disk for MemDisk {
         ensures time { Ticks moment_of seen_of images_of since_of self.old self.new }
         ensures cause { HasExactCause self.old.faults self.new.faults result }
         ensures kept { OnOk result (Made Call.Synced self.old self.new) }
+        ensures same { OnErr result (Same self.old self.new) }
         ensures counts { Counts self.old self.new result }
     {
         self.counted_sync()?;
