@@ -1,8 +1,11 @@
 -- Laws of the format.
-use Rattle.std.specs.Prelude.{◌≡◌, ℕ, List, length}
+use Rattle.std.specs.Prelude.{◌≡◌, ℕ, ◌+◌, ◌*◌, ◌≤◌, List, length}
+use Rattle.std.specs.List.{sum_by}
 use Rattle.journal_rec.specs.declared.records.Record.{Record}
+use Rattle.journal_rec.specs.declared.records.Record.TheVariants.{Rows}
+use Rattle.journal_rec.specs.declared.records.RecordedRow.{RecordedRow}
 use Rattle.journal_rec.specs.Body.{IsBody, body_of}
-use Rattle.journal_rec.specs.Size.{body_size}
+use Rattle.journal_rec.specs.Size.{body_size, stored_weight}
 
 -- No bytes are the body of two records.
 abbrev pub BodyIsOfOneRecord : Type 0
@@ -10,3 +13,8 @@ BodyIsOfOneRecord = (bytes : List ℕ) (r other : Record) → IsBody bytes r →
 
 abbrev pub BodyHasItsSize : Type 0
 BodyHasItsSize = (r : Record) → length (body_of r) ≡ body_size r
+
+-- A record of rows has 9 bytes, per row at most 11, and what the rows weigh.
+abbrev pub RowsAreBounded : Type 0
+RowsAreBounded =
+    (table : ℕ) (rows : List RecordedRow) → body_size (Rows table rows) ≤ 9 + 11 * length rows + sum_by stored_weight rows

@@ -1,4 +1,4 @@
--- Reading a body from left to right, which the readers of the code are compared with. What is read is said by `Body`.
+-- Reading a body from left to right, with which the readers of the code are compared. `Body` says what is read.
 use Rattle.std.specs.Prelude.{◌≡◌, ℕ, ℤ, zero, suc, Bool, true, false, not, ◌&&◌, ◌==◌, nat_lt, nat_le, List, [], ◌∷◌, length, take, drop, Option, Some, None, Result, Ok, Err, if◌then◌else◌}
 use Rattle.std.specs.Int.{Width, w16, w32, w64, byte_len, from_be_bytes, cast_signed}
 use Rattle.std.specs.Str.{is_utf8}

@@ -1,6 +1,7 @@
 -- How many bytes a body has.
 use Rattle.std.specs.Prelude.{ℕ, ◌+◌, List, length, Option, Some, None}
 use Rattle.std.specs.List.{sum_by}
+use Rattle.std.specs.Option.{option_map_or}
 use Rattle.sql_base.specs.Weight.{weight}
 use Rattle.sql_base.specs.declared.values.Value.{Value}
 use Rattle.journal_rec.specs.declared.records.Record.{Record}
@@ -19,3 +20,7 @@ abbrev pub body_size : Record → ℕ
 body_size (Start text) = 5 + length text
 body_size (Rows table rows) = 9 + sum_by row_size rows
 body_size (Step kind) = 2
+
+-- what a row that is left weighs, as it is stored
+abbrev pub stored_weight : RecordedRow → ℕ
+stored_weight row = option_map_or weight row.values 0

@@ -1,5 +1,5 @@
 //! Laws of the format.
-ghost use Rattle.journal_rec.specs.Laws.{BodyIsOfOneRecord, BodyHasItsSize};
+ghost use Rattle.journal_rec.specs.Laws.{BodyIsOfOneRecord, BodyHasItsSize, RowsAreBounded};
 
 /// The law that no bytes are the body of two records.
 pub fn a_body_is_of_one_record()
@@ -9,4 +9,9 @@ pub fn a_body_is_of_one_record()
 /// The law that a body has as many bytes as its size says.
 pub fn a_body_has_its_size()
     ensures { BodyHasItsSize }
+{}
+
+/// The law that a record of rows has 9 bytes, per row at most 11, and what its stored rows weigh.
+pub fn rows_are_bounded()
+    ensures { RowsAreBounded }
 {}
