@@ -1,5 +1,5 @@
 -- Bodies, as they are written and read.
-use Rattle.std.proofs.Common.{◌≡◌, ℕ, zero, suc, ◌^◌, ◌<◌, ◌≤◌, ◌⊎◌, inl, inr, ⊎_elim, Bool, true, false, cond, eqb, ltb, leb, List, [], ◌∷◌, ◌++◌, length, Option, Some, None, Result, Ok, Err, refl, sym, ap, subst, ◌∙◌, append_assoc, arith}
+use Rattle.std.proofs.Common.{◌≡◌, ℕ, suc, ◌^◌, ◌<◌, ◌≤◌, ◌⊎◌, inl, inr, ⊎_elim, true, cond, eqb, ltb, leb, List, [], ◌∷◌, ◌++◌, length, Some, None, Result, Ok, Err, refl, sym, ap, subst, ◌∙◌, append_assoc}
 use Rattle.std.specs.Prelude.{◌&&◌, IfOk, IsErrOf}
 use Rattle.std.specs.Int.{w32, to_be_bytes}
 use Rattle.std.specs.List.{All}
@@ -13,7 +13,7 @@ use Rattle.journal_rec.specs.declared.records.Record.{Record}
 use Rattle.journal_rec.specs.declared.records.Record.TheVariants.{Start, Rows, Step}
 use Rattle.journal_rec.specs.declared.records.RecordedRow.{RecordedRow}
 use Rattle.journal_rec.specs.Body.{counted_bytes, counted, row_bytes, body_of, RowFits, IsProperRow, ascend, Fits, IsProper, IsBody}
-use Rattle.journal_rec.specs.Reading.{◌>>=◌, Reads, byte_at, bytes_at, number_at, counted_at, row_at, ended, start_in, rows_in, step_in, record_in, record_behind}
+use Rattle.journal_rec.specs.Reading.{◌>>=◌, Reads, bytes_at, number_at, counted_at, row_at, ended, start_in, rows_in, step_in, record_in}
 use Rattle.journal_rec.proofs.Forms.{IsBytes, bytes_behind, bind_some, chosen, IsForm, wide32, number_form, bytes_form, counted_form}
 use Rattle.journal_rec.proofs.Values.{row_form}
 

@@ -1,6 +1,5 @@
 -- How many bytes a body has.
-use Rattle.std.proofs.Common.{◌≡◌, ℕ, ◌+◌, ◌*◌, ◌≤◌, List, [], ◌∷◌, ◌++◌, length, Option, Some, None, refl, sym, ap, ◌∙◌, true, false, arith}
-use Rattle.std.specs.Int.{w16, w32, to_be_bytes}
+use Rattle.std.proofs.Common.{◌≡◌, ℕ, ◌+◌, ◌*◌, ◌≤◌, List, [], ◌∷◌, length, Option, Some, None, refl, ap, ◌∙◌, true, false, arith}
 use Rattle.std.specs.List.{sum_by, flat_map}
 use Rattle.std.specs.Option.{option_map_or}
 use Rattle.std.proofs.lemmas.List.{length-append}
@@ -12,7 +11,7 @@ use Rattle.sql_base.specs.declared.values.Value.TheVariants.{Null, Int, Text, Bo
 use Rattle.journal_rec.specs.declared.records.Record.{Record}
 use Rattle.journal_rec.specs.declared.records.Record.TheVariants.{Start, Rows, Step}
 use Rattle.journal_rec.specs.declared.records.RecordedRow.{RecordedRow}
-use Rattle.journal_rec.specs.Body.{int_bytes, value_bytes, values_bytes, rest_bytes, row_bytes, counted_bytes, counted, body_of}
+use Rattle.journal_rec.specs.Body.{int_bytes, value_bytes, rest_bytes, row_bytes, body_of}
 use Rattle.journal_rec.specs.Size.{values_size, row_size, body_size, stored_weight}
 
 of_value : (v : Value) → length (value_bytes v) ≡ value_weight v

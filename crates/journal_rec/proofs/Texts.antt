@@ -1,13 +1,12 @@
 -- Whether bytes are a text, as a test.
-use Rattle.std.proofs.Common.{◌≡◌, ℕ, Bool, true, false, List, Option, Some, None, refl, ap, ◌∙◌}
+use Rattle.std.proofs.Common.{◌≡◌, ℕ, Bool, true, false, List, Some, None, refl}
 use Rattle.std.specs.Prelude.{not, ◌&&◌}
 use Rattle.std.specs.Int.{w16}
-use Rattle.std.specs.Str.{is_utf8, IsUtf8}
+use Rattle.std.specs.Str.{is_utf8}
 use Rattle.std.proofs.lemmas.Str.{IsUtf8-from_is_utf8, is_utf8-from_IsUtf8}
 use Rattle.sql_base.specs.Text.{has_zero, IsText}
-use Rattle.sql_base.specs.declared.values.Value.{Value}
 use Rattle.sql_base.specs.declared.values.Value.TheVariants.{Text}
-use Rattle.journal_rec.specs.Reading.{◌>>=◌, number_at, front_at, bytes_at, is_text, text_at}
+use Rattle.journal_rec.specs.Reading.{number_at, front_at, bytes_at, is_text, text_at}
 
 pub text_passes : (bytes : List ℕ) → IsText bytes → is_text bytes ≡ true
 text_passes bytes is = rw (is_utf8-from_IsUtf8 bytes is.0, is.1) refl

@@ -1,8 +1,7 @@
 -- Values and rows, as they are written and read.
-use Rattle.std.proofs.Common.{◌≡◌, ℕ, zero, suc, ◌^◌, ◌<◌, ◌⊎◌, inl, inr, ⊎_elim, Bool, true, false, cond, eqb, List, [], ◌∷◌, ◌++◌, length, Option, Some, None, refl, sym, ap, subst, ◌∙◌, append_assoc, arith}
-use Rattle.std.specs.Prelude.{ℤ, IfSome}
-use Rattle.std.specs.Int.{w16, w64}
-use Rattle.std.specs.Int.RustNames.{FitsSigned}
+use Rattle.std.proofs.Common.{◌≡◌, ℕ, suc, ◌^◌, ◌<◌, ⊎_elim, true, false, cond, eqb, List, [], ◌∷◌, ◌++◌, length, Option, Some, None, refl, sym, ap, subst, ◌∙◌, append_assoc}
+use Rattle.std.specs.Prelude.{IfSome}
+use Rattle.std.specs.Int.{w16}
 use Rattle.std.specs.List.{All}
 use Rattle.std.proofs.lemmas.Bool.{eqb-true}
 use Rattle.std.proofs.lemmas.Option.{same_Some, none-some, cond_some}
@@ -10,8 +9,8 @@ use Rattle.sql_base.specs.Text.{IsText}
 use Rattle.sql_base.specs.declared.values.Value.{Value}
 use Rattle.sql_base.specs.declared.values.Value.TheVariants.{Null, Int, Text, Bool as Truth}
 use Rattle.journal_rec.specs.declared.records.RecordedRow.{RecordedRow}
-use Rattle.journal_rec.specs.Body.{counted_bytes, counted, int_bytes, value_bytes, values_bytes, rest_bytes, row_bytes, ValueFits, ValuesFit, RowFits, IsProperValue, IsProperRow}
-use Rattle.journal_rec.specs.Reading.{◌>>=◌, Read, bytes_at, int_at, counted_at, is_text, text_at, truth_at, int_value_at, value_at, stored_at, rest_at, row_at}
+use Rattle.journal_rec.specs.Body.{counted_bytes, int_bytes, value_bytes, values_bytes, rest_bytes, row_bytes, ValueFits, ValuesFit, RowFits, IsProperValue, IsProperRow}
+use Rattle.journal_rec.specs.Reading.{◌>>=◌, bytes_at, int_at, counted_at, is_text, text_at, truth_at, int_value_at, value_at, stored_at, rest_at, row_at}
 use Rattle.journal_rec.proofs.Forms.{IsBytes, bytes_behind, bind_some, chosen, Took, IsForm, wide16, bytes_form, int_form, counted_form}
 use Rattle.journal_rec.proofs.Texts.{text_passes, passing_text}
 

@@ -1,7 +1,5 @@
-use Rattle.std.proofs.Common.{◌≡◌, Some, ap, ◌∙◌}
 use Rattle.std.proofs.lemmas.Option.{MatchOption-at_some, MatchOption-at_none}
 use Rattle.journal_rec.proofs.Texts.{text_read, no_text_read}
-use Rattle.sql_base.specs.declared.values.Value.TheVariants.{Text}
 use Rattle.journal_rec.proofs.reading.text_of.Goals as goal
 
 pub returns-in-Some : goal.returns-in-Some

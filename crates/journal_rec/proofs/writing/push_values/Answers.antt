@@ -1,4 +1,4 @@
-use Rattle.std.proofs.Common.{sym, subst}
+use Rattle.std.proofs.Common.{subst}
 use Rattle.std.proofs.lemmas.List.Elements.{All-more}
 use Rattle.journal_rec.specs.Body.{IsProperValue, value_bytes}
 use Rattle.journal_rec.proofs.Pushed.{one_more}
