@@ -1,4 +1,4 @@
--- Reading a body from left to right, with which the readers of the code are compared. `Body` says what is read.
+-- The record of a body as a function of its bytes, read from left to right. By a law it is the one of which they are the body.
 use Rattle.std.specs.Prelude.{◌≡◌, ℕ, ℤ, zero, suc, Bool, true, false, not, ◌&&◌, ◌==◌, nat_lt, nat_le, List, [], ◌∷◌, length, take, drop, Option, Some, None, Result, Ok, Err, if◌then◌else◌}
 use Rattle.std.specs.Int.{Width, w16, w32, w64, byte_len, from_be_bytes, cast_signed}
 use Rattle.std.specs.Str.{is_utf8}
@@ -157,6 +157,7 @@ record_behind kind rest =
     else (if kind == 2 then rows_in rest
     else (if kind == 3 then step_in rest else None))
 
+-- the record of which these bytes are the body
 unfoldable pub record_in : List ℕ → Option Record
 record_in body = do
   kind ← byte_at body

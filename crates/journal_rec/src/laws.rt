@@ -1,9 +1,15 @@
 //! Laws of the format.
-ghost use Rattle.journal_rec.specs.Laws.{BodyIsOfOneRecord, BodyHasItsSize, RowsAreBounded};
+ghost use Rattle.journal_rec.specs.Laws.{BodyIsOfOneRecord, BodyIsRead, ReadIsOfItsBody, BodyHasItsSize, RowsAreBounded};
 
 /// The law that no bytes are the body of two records.
 pub fn a_body_is_of_one_record()
     ensures { BodyIsOfOneRecord }
+{}
+
+/// The law that a body is read as its record, and nothing else as that record.
+pub fn a_body_is_read_as_its_record()
+    ensures read { BodyIsRead }
+    ensures body { ReadIsOfItsBody }
 {}
 
 /// The law that a body has as many bytes as its size says.

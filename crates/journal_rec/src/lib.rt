@@ -12,7 +12,9 @@ mod tests;
 mod writing;
 
 pub use faults::RecordFault;
-pub use laws::{a_body_has_its_size, a_body_is_of_one_record, rows_are_bounded};
+pub use laws::{
+    a_body_has_its_size, a_body_is_of_one_record, a_body_is_read_as_its_record, rows_are_bounded,
+};
 pub use reading::read_record;
 pub use records::{Record, RecordedRow};
 pub use writing::write_record;

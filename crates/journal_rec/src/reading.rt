@@ -171,6 +171,8 @@ pub fn read_record(alloc: Global, body: &[u8]) -> Result<Record, RecordFault>
     ensures found { IfOk result (λ r. IsBody body.now r) }
     ensures only { (r : Record) → IsBody body.now r → (result ≡ Ok r) ⊎ (result ≡ Err RecordFault.NoMemory) }
     ensures bad { IsErrOf result RecordFault.Bad → (r : Record) → ¬ IsBody body.now r }
+    // The same, as a function of the bytes.
+    ensures exact { Reads (λ r. r) result (record_in body.now) }
 {
     record_of(alloc, body)
 }
