@@ -3,12 +3,12 @@ use Rattle.std.proofs.Common.{◌≡◌, inl, inr, ⊎_elim, ℕ, zero, suc, ◌
 use Rattle.std.proofs.lemmas.Bool.{cases_eq}
 use Rattle.std.proofs.lemmas.List.{append-nil, take_at, drop_at, take_all}
 use Rattle.pg_io.specs.Disk.{Holds, Torn, Only, Within, LeavesOnly}
-use Rattle.journal.specs.Records.{IsRecord, AreRecords, lead, pieces, front, Reads, recovered, behind_text}
+use Rattle.journal.specs.Records.{IsRecord, AreRecords, lead, pieces, front, Reads, records_of, behind_text, BeginsAsJournal}
 use Rattle.journal.specs.Story.{story_of, pending_of, IsAllBut, IsFrontOf, IsKept}
 use Rattle.journal.specs.declared.stage.Phase.{Phase}
 use Rattle.journal.specs.declared.stage.Phase.TheVariants.{Standing, Fallen, Undecided}
 use Rattle.journal.proofs.Moments.{started, weaker, joined}
-use Rattle.journal.proofs.Text.{front_recovered, reads_recovered, behind_gate, torn_behind, written_behind, torn_gate, written_gate, pieces-push, are-push, reads_more}
+use Rattle.journal.proofs.Text.{records_of_front, records_of_file, behind_gate, torn_behind, written_behind, torn_gate, written_gate, pieces-push, are-push, opened_text, reads_more}
 
 -- ---- fronts of the list
 
@@ -43,10 +43,10 @@ module _ {D : Type 0} (moment : D → ℕ) (seen : D → List ℕ) (may_leave : 
     (only_now : (disk : D) (c : List ℕ) → left_since disk (moment disk) c → may_leave disk c) (start d0 : D) (first n : ℕ)
     (kept : IsKept moment seen may_leave left_since (story_of seen d0 start first n Standing)) where
   abbrev base : List (List ℕ)
-  base = recovered (take first (seen start))
+  base = records_of (take first (seen start))
 
   abbrev added : List (List ℕ)
-  added = drop (length base) (recovered (take n (seen d0)))
+  added = drop (length base) (records_of (take n (seen d0)))
 
   abbrev rs : List (List ℕ)
   rs = base ++ added
@@ -67,12 +67,12 @@ module _ {D : Type 0} (moment : D → ℕ) (seen : D → List ℕ) (may_leave : 
   Kept d m phase = IsKept moment seen may_leave left_since (story_of seen d start first m phase)
 
   added_is : (d : D) (xs : List (List ℕ)) (rest : List ℕ) (m : ℕ) → AreRecords (base ++ xs) → m ≡ length (front (base ++ xs)) → seen d ≡ front (base ++ xs) ++ rest
-      → drop (length base) (recovered (take m (seen d))) ≡ xs
+      → drop (length base) (records_of (take m (seen d))) ≡ xs
   added_is d xs rest m are place is =
       let front_is : take m (seen d) ≡ front (base ++ xs) = ap (λ (l : List ℕ). take m l) is ∙ take_at (front (base ++ xs)) rest m (sym place) in
-      ap (λ (l : List ℕ). drop (length base) (recovered l)) front_is ∙ ap (λ (l : List (List ℕ)). drop (length base) l) (front_recovered (base ++ xs) are) ∙ drop_at base xs (length base) refl
+      ap (λ (l : List ℕ). drop (length base) (records_of l)) front_is ∙ ap (λ (l : List (List ℕ)). drop (length base) l) (records_of_front (base ++ xs) are) ∙ drop_at base xs (length base) refl
 
-  rebuilt : (d : D) (m : ℕ) (phase : Phase) (xs ps : List (List ℕ)) → drop (length base) (recovered (take m (seen d))) ≡ xs → pending_of (seen d) m phase ≡ ps
+  rebuilt : (d : D) (m : ℕ) (phase : Phase) (xs ps : List (List ℕ)) → drop (length base) (records_of (take m (seen d))) ≡ xs → pending_of (seen d) m phase ≡ ps
       → IsKept moment seen may_leave left_since (record { disk = d; start = start; base = base; added = xs; pending = ps; gate = m; phase = phase }) → Kept d m phase
   rebuilt d m phase xs ps added_eq pending_eq it =
       subst (λ (l : List (List ℕ)). IsKept moment seen may_leave left_since (record { disk = d; start = start; base = base; added = l; pending = pending_of (seen d) m phase; gate = m; phase = phase })) (sym added_eq)
@@ -86,7 +86,7 @@ module _ {D : Type 0} (moment : D → ℕ) (seen : D → List ℕ) (may_leave : 
 
   torn_1 : (m : ℕ) (c : List ℕ) → Torn (n + 1) m (seen d0) c → Reads rs c
   torn_1 m c torn =
-      record { gate = g; behind = drop (n + 1) c; closed = kept.by_phase.reads.closed; text = torn_behind (front rs) g b n size m c (subst (λ f. Torn (n + 1) m f c) text torn) }
+      record { records = kept.records; gate = g; behind = drop (n + 1) c; closed = kept.by_phase.reads.closed; text = torn_behind (front rs) g b n size m c (subst (λ f. Torn (n + 1) m f c) text torn) }
 
   module _ (d1 : D) (m : ℕ) (moments_1 : LeavesOnly moment left_since d0 d1 (Torn (n + 1) m (seen d0))) (now_1 : Within (may_leave d1) (Torn (n + 1) m (seen d0))) where
     later_1 : moment start ≤ moment d1
@@ -95,7 +95,7 @@ module _ {D : Type 0} (moment : D → ℕ) (seen : D → List ℕ) (may_leave : 
     since_1 : Within (left_since d1 (moment start)) (IsFrontOf base (added ++ []))
     since_1 c left = ⊎_elim (kept.by_phase.promises.since c) (λ torn. front_all base added [] c (torn_1 m c torn)) (moments_1.before (moment start) c kept.later left)
 
-    pub fallen_added : drop (length base) (recovered (take n (seen d1))) ≡ added
+    pub fallen_added : drop (length base) (records_of (take n (seen d1))) ≡ added
     fallen_added = let reads = torn_1 m (seen d1) (now_1 (seen d1) (reads_now d1)) in added_is d1 added (reads.gate ∷ reads.behind) n kept.records kept.place reads.text
 
     pub fallen : Kept d1 n Fallen
@@ -127,8 +127,8 @@ module _ {D : Type 0} (moment : D → ℕ) (seen : D → List ℕ) (may_leave : 
 
       torn_2 : (c : List ℕ) → Torn n 1 (seen d1) c → IsAllBut rs (r ∷ []) c
       torn_2 c torn = elim (cases_eq (get_or c n 0) 1) [
-        | inl is_open ↦ inr (subst (Reads (rs ++ r ∷ [])) (sym (some_gate c torn ∙ ap (λ (k : ℕ). front rs ++ k ∷ (behind_text r ++ rest)) is_open)) (reads_more rs r rest))
-        | inr shut ↦ inl (record { gate = get_or c n 0; behind = behind_text r ++ rest; closed = shut; text = some_gate c torn })
+        | inl is_open ↦ inr (subst (Reads (rs ++ r ∷ [])) (sym (some_gate c torn ∙ ap (λ (k : ℕ). front rs ++ k ∷ (behind_text r ++ rest)) is_open)) (reads_more rs r rest more))
+        | inr shut ↦ inl (record { records = kept.records; gate = get_or c n 0; behind = behind_text r ++ rest; closed = shut; text = some_gate c torn })
       ]
 
       module _ (d2 : D) (moments_2 : LeavesOnly moment left_since d1 d2 (Torn n 1 (seen d1))) (now_2 : Within (may_leave d2) (Torn n 1 (seen d1))) where
@@ -147,15 +147,15 @@ module _ {D : Type 0} (moment : D → ℕ) (seen : D → List ℕ) (may_leave : 
         since_2 c left =
             ⊎_elim (λ earlier. front_more base added (r ∷ []) c (since_1 c earlier)) (λ torn. ⊎_elim (front_all base added (r ∷ []) c) (front_last base added r c) (torn_2 c torn)) (moments_2.before (moment start) c later_1 left)
 
-        pub undecided_added : drop (length base) (recovered (take n (seen d2))) ≡ added
+        pub undecided_added : drop (length base) (records_of (take n (seen d2))) ≡ added
         undecided_added = added_is d2 added (get_or (seen d2) n 0 ∷ (behind_text r ++ rest)) n kept.records kept.place seen_2
 
         pub undecided_pending : pending_of (seen d2) n Undecided ≡ r ∷ []
         undecided_pending =
             let f : take n (seen d2) ≡ front rs = ap (λ (l : List ℕ). take n l) seen_2 ∙ take_at (front rs) (get_or (seen d2) n 0 ∷ (behind_text r ++ rest)) n size in
             let e : drop (n + 1) (seen d2) ≡ behind_text r ++ rest = ap (λ (l : List ℕ). drop (n + 1) l) seen_2 ∙ behind_gate (front rs) (get_or (seen d2) n 0) (behind_text r ++ rest) n size in
-            (λ i. drop (length (recovered (f i))) (recovered (f i ++ 1 ∷ e i)))
-            ∙ (λ i. drop (length (front_recovered rs kept.records i)) (reads_recovered (rs ++ r ∷ []) (front rs ++ 1 ∷ (behind_text r ++ rest)) more (reads_more rs r rest) i))
+            (λ i. drop (length (records_of (f i))) (records_of (f i ++ 1 ∷ e i)))
+            ∙ (λ i. drop (length (records_of_front rs kept.records i)) (records_of_file (rs ++ r ∷ []) (front rs ++ 1 ∷ (behind_text r ++ rest)) (reads_more rs r rest more) i))
             ∙ drop_at rs (r ∷ []) (length rs) refl
 
         pub undecided : Kept d2 n Undecided
@@ -179,7 +179,11 @@ module _ {D : Type 0} (moment : D → ℕ) (seen : D → List ℕ) (may_leave : 
           opened = written_gate (front rs) g (behind_text r ++ rest) n size (seen d2) (subst (λ f. Holds f n (1 ∷ []) (seen d2)) staged written_2)
 
           reads_2 : Reads (base ++ (added ++ r ∷ [])) (seen d2)
-          reads_2 = subst (λ (l : List (List ℕ)). Reads l (seen d2)) same (subst (Reads (rs ++ r ∷ [])) (sym opened) (reads_more rs r rest))
+          reads_2 = subst (λ (l : List (List ℕ)). Reads l (seen d2)) same (subst (Reads (rs ++ r ∷ [])) (sym opened) (reads_more rs r rest more))
+
+          -- it has the journal's text
+          pub grown_text : BeginsAsJournal (base ++ (added ++ r ∷ [])) (seen d2)
+          grown_text = (rest, opened ∙ opened_text rs r rest ∙ ap (λ (l : List (List ℕ)). front l ++ 0 ∷ rest) same)
 
           -- each image has all records
           pub grown_now : Within (may_leave d2) (Reads (base ++ (added ++ r ∷ [])))
@@ -191,7 +195,7 @@ module _ {D : Type 0} (moment : D → ℕ) (seen : D → List ℕ) (may_leave : 
           place_2 : m2 ≡ length (front (base ++ (added ++ r ∷ [])))
           place_2 = omega (arith, front-size rs r, size) ∙ ap (λ (l : List (List ℕ)). length (front l)) same
 
-          pub grown_added : drop (length base) (recovered (take m2 (seen d2))) ≡ added ++ r ∷ []
+          pub grown_added : drop (length base) (records_of (take m2 (seen d2))) ≡ added ++ r ∷ []
           grown_added = added_is d2 (added ++ r ∷ []) (reads_2.gate ∷ reads_2.behind) m2 records_2 place_2 reads_2.text
 
           pub grown : Kept d2 m2 Standing

@@ -1,7 +1,7 @@
 -- What a journal keeps when it is made, and what it promises.
 use Rattle.std.proofs.Common.{◌≡◌, ◌≢◌, inl, ℕ, List, [], ◌∷◌, ◌++◌, length, take, drop, refl, sym, subst, arith}
 use Rattle.pg_io.specs.Disk.{Only}
-use Rattle.journal.specs.Records.{head, Reads, recovered}
+use Rattle.journal.specs.Records.{head, Reads, records_of}
 use Rattle.journal.specs.Story.{Story, story_of, Promises, ByPhase, IsKept}
 use Rattle.journal.specs.declared.stage.Phase.{Phase}
 use Rattle.journal.specs.declared.stage.Phase.TheVariants.{Reading, Standing, Fallen, Undecided}
@@ -22,12 +22,12 @@ module _ {D : Type 0} (moment : D → ℕ) (seen : D → List ℕ) (may_leave : 
   pub begun : (only_now : (disk : D) (c : List ℕ) → left_since disk (moment disk) c → may_leave disk c) (d : D)
       → seen d ≡ head ++ 0 ∷ [] → Only (seen d) (may_leave d) → Kept (story_of seen d d 8 8 Standing)
   begun only_now d is only =
-      let reads : Reads [] (seen d) = record { gate = 0; behind = []; closed = omega arith; text = is } in
+      let reads : Reads [] (seen d) = record { records = tt; gate = 0; behind = []; closed = omega arith; text = is } in
       subst (λ f. Kept (record {
         disk = d;
         start = d;
-        base = recovered (take 8 f);
-        added = drop (length (recovered (take 8 f))) (recovered (take 8 f));
+        base = records_of (take 8 f);
+        added = drop (length (records_of (take 8 f))) (records_of (take 8 f));
         pending = [];
         gate = 8;
         phase = Standing;

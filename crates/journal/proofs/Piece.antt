@@ -35,6 +35,10 @@ place_of (Err NoMemory) = 0
 pub same_place : {T : Type 0} (at place : ℕ) → ◌≡◌ {A = Result T JournalFault} (Err (BadRecord at)) (Err (BadRecord place)) → place ≡ at
 same_place at place is = sym (ap place_of is)
 
+-- the same fault in another answer
+pub same_fault : {T U : Type 0} (f other : JournalFault) → ◌≡◌ {A = Result T JournalFault} (Err f) (Err other) → ◌≡◌ {A = Result U JournalFault} (Err f) (Err other)
+same_fault f other is = let same : f ≡ other = cc in ap (λ (e : JournalFault). Err e) same
+
 -- ---- where no record stands
 
 open_at : (file buf : List ℕ) (at : ℕ) → at < length file → buf ≡ take 1 (drop at file) → get_or buf 0 0 ≡ 1 → drop at file ≡ 1 ∷ drop (at + 1) file

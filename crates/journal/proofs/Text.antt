@@ -4,7 +4,7 @@ use Rattle.std.proofs.lemmas.Bool.Decides.{nat_tests}
 use Rattle.std.proofs.lemmas.List.{append-nil, take_at, drop_at, drop_more}
 use Rattle.std.proofs.lemmas.Nat.{from_be_bytes-to_be_bytes_4}
 use Rattle.pg_io.specs.Disk.{Holds, Torn}
-use Rattle.journal.specs.Records.{head, IsRecord, AreRecords, lead, pieces, front, Reads, records_in, recovered, behind_text}
+use Rattle.journal.specs.Records.{head, IsRecord, AreRecords, lead, pieces, front, Reads, records_in, records_of, behind_text}
 
 -- ---- what it stands for
 
@@ -34,21 +34,21 @@ shut_in zero gate rest shut = refl
 shut_in (suc n) gate rest shut = grind (arith, nat_tests)
 
 -- a text that ends before its gate
-pub front_recovered : (rs : List (List ℕ)) → AreRecords rs → recovered (front rs) ≡ rs
-front_recovered rs are =
+pub records_of_front : (rs : List (List ℕ)) → AreRecords rs → records_of (front rs) ≡ rs
+records_of_front rs are =
     let n = length (front rs) in
     ap (λ (l : List ℕ). records_in n l) (sym (append-nil (pieces rs)))
     ∙ records_pieces rs n (8 + length (pieces rs) - length rs) [] are (omega (arith, fewer rs))
     ∙ ap (λ (l : List (List ℕ)). rs ++ l) (none_in (8 + length (pieces rs) - length rs)) ∙ append-nil rs
 
 -- what is read is determined
-pub reads_recovered : (rs : List (List ℕ)) (file : List ℕ) → AreRecords rs → Reads rs file → recovered file ≡ rs
-reads_recovered rs file are reads =
+pub records_of_file : (rs : List (List ℕ)) (file : List ℕ) → Reads rs file → records_of file ≡ rs
+records_of_file rs file reads =
     let end = reads.gate ∷ reads.behind in
     let n = length (front rs ++ end) in
     let m = n - length rs in
-    ap recovered reads.text
-    ∙ records_pieces rs n m end are (omega (arith, fewer rs, length-append (pieces rs) end))
+    ap records_of reads.text
+    ∙ records_pieces rs n m end reads.records (omega (arith, fewer rs, length-append (pieces rs) end))
     ∙ ap (λ (l : List (List ℕ)). rs ++ l) (shut_in m reads.gate reads.behind reads.closed) ∙ append-nil rs
 
 -- ---- what writes make of it
@@ -103,5 +103,5 @@ opened_text rs r rest =
     let inner : behind_text r ++ rest ≡ lead r ++ (r ++ (0 ∷ rest)) = append_assoc (lead r) (r ++ 0 ∷ []) rest ∙ ap (λ (l : List ℕ). lead r ++ l) (append_assoc r (0 ∷ []) rest) in
     ap (λ (l : List ℕ). front rs ++ 1 ∷ l) inner ∙ ap (λ (l : List ℕ). head ++ l) (sym (pieces-push rs r (0 ∷ rest)))
 
-pub reads_more : (rs : List (List ℕ)) (r rest : List ℕ) → Reads (rs ++ r ∷ []) (front rs ++ 1 ∷ (behind_text r ++ rest))
-reads_more rs r rest = record { gate = 0; behind = rest; closed = omega arith; text = opened_text rs r rest }
+pub reads_more : (rs : List (List ℕ)) (r rest : List ℕ) → AreRecords (rs ++ r ∷ []) → Reads (rs ++ r ∷ []) (front rs ++ 1 ∷ (behind_text r ++ rest))
+reads_more rs r rest are = record { records = are; gate = 0; behind = rest; closed = omega arith; text = opened_text rs r rest }

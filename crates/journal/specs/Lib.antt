@@ -2,3 +2,4 @@ pub mod Records
 pub mod Story
 pub mod Attaching
 pub mod Kept
+pub mod Laws

@@ -1,5 +1,7 @@
 -- The text of a list of records, and what a file stands for.
-use Rattle.std.specs.Prelude.{◌≡◌, ◌≢◌, ◌⊎◌, ℕ, ◌+◌, ◌<◌, ◌≤◌, zero, suc, List, [], ◌∷◌, ◌++◌, length, take, drop, if◌then◌else◌, ◌==◌}
+use Rattle.std.specs.Prelude.{◌≡◌, ◌≢◌, ◌⊎◌, ℕ, ◌+◌, ◌<◌, ◌≤◌, zero, suc, List, [], ◌∷◌, ◌++◌, length, take, drop, if◌then◌else◌, ◌==◌, ◌&&◌, nat_le, Bool, Option, Some, None}
+use Rattle.std.specs.Option.{option_map}
+use Rattle.std.specs.Str.{bytes_eq}
 use Rattle.std.specs.Int.{w32, to_be_bytes, from_be_bytes}
 
 -- the most bytes that a record may have, and a journal
@@ -36,6 +38,7 @@ front rs = head ++ pieces rs
 
 -- the file reads, up to its first closed gate, as these records; what follows that gate isn't looked at
 pub record Reads (rs : List (List ℕ)) (file : List ℕ) : Type 0 where
+  pub records : AreRecords rs
   pub gate : ℕ
   pub behind : List ℕ
   pub closed : gate ≢ 1
@@ -51,9 +54,35 @@ records_in zero bytes = []
 records_in (suc n) [] = []
 records_in (suc n) (gate ∷ rest) = if gate == 1 then take (lead_of rest) (drop 4 rest) ∷ records_in n (drop (lead_of rest) (drop 4 rest)) else []
 
--- the records up to the first closed gate
-abbrev pub recovered : List ℕ → List (List ℕ)
-recovered file = records_in (length file) (drop 8 file)
+-- what stands behind open gates, whether or not the file is a journal
+abbrev pub records_of : List ℕ → List (List ℕ)
+records_of file = records_in (length file) (drop 8 file)
+
+-- behind an open gate stand a length and as many bytes
+abbrev pub has_record : List ℕ → Bool
+has_record behind =
+    nat_le 4 (length behind) && (nat_le 1 (lead_of behind)
+    && (nat_le (lead_of behind) record_limit && nat_le (4 + lead_of behind) (length behind)))
+
+-- the records from this gate on, where there are fewer than so many, up to the first closed gate; none where a gate
+-- is missing or has no record behind it
+abbrev pub listed : ℕ → List ℕ → Option (List (List ℕ))
+listed zero bytes = None
+listed (suc n) [] = None
+listed (suc n) (gate ∷ rest) =
+    if gate == 1 then
+    (if has_record rest then
+    option_map (λ rs. take (lead_of rest) (drop 4 rest) ∷ rs) (listed n (drop (lead_of rest) (drop 4 rest)))
+    else None)
+    else Some []
+
+-- The records of a file, up to its first closed gate; none for bytes that are no journal, or have a bad record.
+abbrev pub journal_in : List ℕ → Option (List (List ℕ))
+journal_in file = if bytes_eq (take 8 file) head then listed (length file) (drop 8 file) else None
+
+-- the text of a journal of these records; what stands behind it isn't looked at
+abbrev pub BeginsAsJournal : List (List ℕ) → List ℕ → Type 0
+BeginsAsJournal rs file = (behind : List ℕ) × (file ≡ front rs ++ 0 ∷ behind)
 
 -- what is written behind a gate: the record, and the closed gate that follows it
 abbrev pub behind_text : List ℕ → List ℕ

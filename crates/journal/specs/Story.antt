@@ -1,7 +1,7 @@
 -- A journal as clauses see it, and what its type keeps.
 use Rattle.std.specs.Prelude.{◌≡◌, ◌⊎◌, ℕ, ◌+◌, ◌≤◌, List, [], ◌∷◌, ◌++◌, length, take, drop}
 use Rattle.pg_io.specs.Disk.{Only, Within, LeavesOnly}
-use Rattle.journal.specs.Records.{front, AreRecords, Reads, recovered}
+use Rattle.journal.specs.Records.{front, AreRecords, Reads, records_of}
 use Rattle.journal.specs.declared.stage.Phase.{Phase}
 use Rattle.journal.specs.declared.stage.Phase.TheVariants.{Reading, Standing, Fallen, Undecided}
 
@@ -28,14 +28,14 @@ abbrev pub pending_of : List ℕ → ℕ → Phase → List (List ℕ)
 pending_of file at Reading = []
 pending_of file at Standing = []
 pending_of file at Fallen = []
-pending_of file at Undecided = drop (length (recovered (take at file))) (recovered (take at file ++ 1 ∷ drop (at + 1) file))
+pending_of file at Undecided = drop (length (records_of (take at file))) (records_of (take at file ++ 1 ∷ drop (at + 1) file))
 
 abbrev pub story_of : {D : Type 0} → (D → List ℕ) → D → D → ℕ → ℕ → Phase → Story D
 story_of seen disk start first at phase = record {
   disk = disk;
   start = start;
-  base = recovered (take first (seen start));
-  added = drop (length (recovered (take first (seen start)))) (recovered (take at (seen disk)));
+  base = records_of (take first (seen start));
+  added = drop (length (records_of (take first (seen start)))) (records_of (take at (seen disk)));
   pending = pending_of (seen disk) at phase;
   gate = at;
   phase = phase;

@@ -1,9 +1,9 @@
 //! Records behind gates. Each is on the disk before its gate is opened.
-ghost use Rattle.std.specs.Prelude.{◌≡◌, ◌≢◌, ◌⊎◌, ◌<◌, ◌≤◌, ◌+◌, ◌-◌, ◌++◌, [], ◌∷◌, ℕ, length, take, vec_capacity, IfOk, IfErr, IfSome, OnOk, OnErr, IsErr, IsErrOf, Ok, Err, None};
+ghost use Rattle.std.specs.Prelude.{◌≡◌, ◌≢◌, ◌⊎◌, ◌<◌, ◌≤◌, ◌+◌, ◌-◌, ◌++◌, [], ◌∷◌, ℕ, length, take, vec_capacity, IfOk, IfErr, IfSome, OnOk, OnErr, IsErr, IsErrOf, Ok, Err, None, Some};
 ghost use Rattle.pg_io.specs.Causes.{Rose};
-ghost use Rattle.pg_io.specs.Disk.{Only, Within, LeavesOnly};
-ghost use Rattle.journal.specs.Attaching.{disk_of, WhyAttached, IsReading, RoseIfFailed};
-ghost use Rattle.journal.specs.Records.{IsRecord, IsPieceAt, IsShutAt, IsBadAt, Passes, Reads, behind_text, front, head};
+ghost use Rattle.pg_io.specs.Disk.{Only, Within, LeavesOnly, Still};
+ghost use Rattle.journal.specs.Attaching.{disk_of, WhyAttached, IsReading, LeavesThen, RoseIfFailed, PassedUnlessFailed};
+ghost use Rattle.journal.specs.Records.{IsRecord, AreRecords, IsPieceAt, IsShutAt, IsBadAt, Passes, Reads, BeginsAsJournal, behind_text, front, head, journal_in};
 
 use crate::keeping::{KeepFault, Keeper};
 use crate::pieces::{JournalFault, read_piece};
@@ -81,10 +81,11 @@ impl<D: Disk> Journal<D> {
     pub fn create(alloc: Global, disk: D) -> Result<Self, (Failed, D)>
         requires empty { D.tells → D.seen disk ≡ [] }
         ensures stands { IfOk result (λ j. j.story.phase ≡ Phase.Standing) }
-        ensures empty { D.tells → IfOk result (λ j. (j.story.base ≡ []) × (j.story.added ≡ [])) }
+        ensures empty { D.tells → IfOk result (λ j. (j.story.base ≡ []) × (j.story.added ≡ []) × (j.story.pending ≡ [])) }
         ensures text { D.tells → IfOk result (λ j. D.seen j.story.disk ≡ head ++ 0 ∷ []) }
         ensures start { IfOk result (λ j. j.story.start ≡ j.story.disk) }
         ensures failed { IfErr result (λ e. Rose (D.faults disk) (D.faults e.1)) }
+        ensures passed { IfOk result (λ j. D.faults j.story.disk ≡ D.faults disk) }
         ensures later { IfOk result (λ j. D.faults disk ≤ D.faults j.story.disk) }
     {
         let mut disk = disk;
@@ -111,8 +112,10 @@ impl<D: Disk> Journal<D> {
         ensures why { D.tells → WhyAttached D.moment D.seen disk result }
         ensures reading { IsReading result }
         ensures failed { RoseIfFailed D.faults disk result }
+        ensures passed { PassedUnlessFailed D.faults disk result }
         ensures seen { D.tells → D.seen (disk_of result) ≡ D.seen disk }
         ensures images { D.tells → LeavesOnly D.moment D.left_since disk (disk_of result) (D.may_leave disk) }
+        ensures leaves { D.tells → LeavesThen D.seen D.may_leave disk result }
         ensures later { D.faults disk ≤ D.faults (disk_of result) }
     {
         let mut disk = disk;
@@ -163,15 +166,21 @@ impl<D: Disk> Journal<D> {
 
         ensures end { result ≡ Ok None → self.new.story.phase ≡ Phase.Standing }
         ensures shut { D.tells → result ≡ Ok None → IsShutAt (D.seen self.old.story.disk) self.old.story.gate }
-        ensures all { D.tells → result ≡ Ok None → (self.new.story.base ≡ self.old.story.base) × (self.new.story.added ≡ []) }
+        ensures all { D.tells → result ≡ Ok None → (self.new.story.base ≡ self.old.story.base)
+            × (self.new.story.added ≡ []) × (self.new.story.pending ≡ []) }
+        ensures reads { D.tells → result ≡ Ok None → Reads self.new.story.base (D.seen self.new.story.disk) }
 
         ensures err { OnErr result ((self.new.story.phase ≡ Phase.Reading) × (self.new.story.gate ≡ self.old.story.gate)) }
         ensures err_base { D.tells → OnErr result (self.new.story.base ≡ self.old.story.base) }
         ensures failed { IsErrOf result JournalFault.Failed → Rose (D.faults self.old.story.disk) (D.faults self.new.story.disk) }
+        ensures passed { IsErrOf result JournalFault.Failed ⊎ (D.faults self.new.story.disk ≡ D.faults self.old.story.disk) }
         ensures bad { (at : ℕ) → result ≡ Err (JournalFault.BadRecord at) → (at ≡ self.old.story.gate) × (D.tells → IsBadAt (D.seen self.old.story.disk) at) }
         ensures all_bad { D.tells → IsBadAt (D.seen self.old.story.disk) self.old.story.gate → ¬ Rose (D.faults self.old.story.disk) (D.faults self.new.story.disk) → result ≡ Err (JournalFault.BadRecord self.old.story.gate) }
 
-        ensures seen { D.tells → D.seen self.new.story.disk ≡ D.seen self.old.story.disk }
+        ensures absent { D.tells → (at : ℕ) → result ≡ Err (JournalFault.BadRecord at) → journal_in (D.seen self.old.story.disk) ≡ None }
+
+        // Whatever it answers, the disk reads as before, and a crash leaves what it might have left.
+        ensures disk { D.tells → Still D.moment D.seen D.may_leave D.left_since self.old.story.disk self.new.story.disk }
         ensures start { self.new.story.start ≡ self.old.story.start }
         ensures later { D.faults self.old.story.disk ≤ D.faults self.new.story.disk }
     {
@@ -194,14 +203,17 @@ impl<D: Disk> Journal<D> {
         }
     }
 
-    /// What the type keeps of every crash, now and since the start; and of a journal that stands, that the disk reads
-    /// as its records and that a crash leaves just that.
+    /// What the type keeps of every crash, now and since the start: while the records are read, that it leaves the
+    /// file as it is. And of a journal that stands, that the disk reads as its records and that a crash leaves just
+    /// that.
     pub fn promise(&self)
-        requires read { self.now.story.phase ≢ Phase.Reading }
-        ensures promises { D.tells → Promises D.moment D.seen D.may_leave D.left_since self.now.story }
+        ensures untouched { D.tells → self.now.story.phase ≡ Phase.Reading
+            → Only (D.seen self.now.story.disk) (D.left_since self.now.story.disk (D.moment self.now.story.start)) }
+        ensures promises { D.tells → self.now.story.phase ≢ Phase.Reading → Promises D.moment D.seen D.may_leave D.left_since self.now.story }
         ensures reads { D.tells → self.now.story.phase ≡ Phase.Standing → Reads (self.now.story.base ++ self.now.story.added) (D.seen self.now.story.disk) }
         ensures durable { D.tells → self.now.story.phase ≡ Phase.Standing → Only (D.seen self.now.story.disk) (D.may_leave self.now.story.disk) }
         ensures gate { D.tells → self.now.story.gate ≡ length (front (self.now.story.base ++ self.now.story.added)) }
+        ensures records { D.tells → AreRecords (self.now.story.base ++ self.now.story.added) }
     {
         let _ = &self.phase;
     }
@@ -248,6 +260,8 @@ impl<D: Disk> Journal<D> {
         ensures start { self.new.story.start ≡ self.old.story.start }
 
         ensures failed { IsErrOf result KeepFault.Failed → Rose (D.faults self.old.story.disk) (D.faults self.new.story.disk) }
+        ensures passed { IsErrOf result KeepFault.Failed ⊎ (D.faults self.new.story.disk ≡ D.faults self.old.story.disk) }
+        ensures fallen { IsErrOf result KeepFault.Failed → self.new.story.phase ≢ Phase.Standing }
         ensures pending { D.tells → (self.new.story.pending ≡ []) ⊎ (self.new.story.pending ≡ body.now ∷ []) }
         ensures full { Passes self.old.story.gate body.now → result ≡ Err (KeepFault.Full self.old.story.gate) }
         ensures only_full { (len : ℕ) → result ≡ Err (KeepFault.Full len) → (len ≡ self.old.story.gate) × Passes len body.now × (self.new.story ≡ self.old.story) }
@@ -255,6 +269,9 @@ impl<D: Disk> Journal<D> {
 
         // After Ok every image has the records from before it and the new one.
         ensures now { D.tells → OnOk result (Within (D.may_leave self.new.story.disk) (Reads (self.old.story.base ++ (self.old.story.added ++ body.now ∷ [])))) }
+
+        // And what a read gives is the journal's text, and then bytes that nobody looks at.
+        ensures text { D.tells → OnOk result (BeginsAsJournal (self.new.story.base ++ self.new.story.added) (D.seen self.new.story.disk)) }
 
         // The record's gate stands behind the records from before.
         ensures place { D.tells → self.old.story.gate ≡ length (front (self.old.story.base ++ self.old.story.added)) }

@@ -1,5 +1,5 @@
 //! Where records are kept.
-ghost use Rattle.std.specs.Prelude.{◌≡◌, ◌≤◌, ◌++◌, [], ◌∷◌, ℕ, List, length, OnOk, OnErr, IsErrOf, Err};
+ghost use Rattle.std.specs.Prelude.{◌≡◌, ◌⊎◌, ◌≤◌, ◌++◌, [], ◌∷◌, ℕ, List, length, OnOk, OnErr, IsErrOf, Err};
 ghost use Rattle.pg_io.specs.Causes.{Rose};
 ghost use Rattle.journal.specs.Records.{IsRecord, front, Passes};
 
@@ -60,9 +60,11 @@ pub trait Keeper {
         ensures undone { tells → OnErr result (records self.new ≡ records self.old) }
         ensures appends { appends (meaning self.old) (meaning self.new) body.now }
         ensures stands { ¬ IsErrOf result KeepFault.Failed → stands self.new }
+        ensures fallen { IsErrOf result KeepFault.Failed → ¬ stands self.new }
 
         // `Failed` comes only where it failed, and `Full` exactly where the record passes the limit.
         ensures failed { IsErrOf result KeepFault.Failed → Rose (faults self.old) (faults self.new) }
+        ensures passed { IsErrOf result KeepFault.Failed ⊎ (faults self.new ≡ faults self.old) }
         ensures full { tells → Passes (length (front (records self.old))) body.now → result ≡ Err (KeepFault.Full (length (front (records self.old)))) }
         ensures only_full { (len : ℕ) → result ≡ Err (KeepFault.Full len) → (tells → (len ≡ length (front (records self.old))) × Passes len body.now) × (meaning self.new ≡ meaning self.old) }
         ensures later { faults self.old ≤ faults self.new };

@@ -64,6 +64,7 @@ pub fn read_piece<D: Disk>(
     ensures bad { (place : ℕ) → result ≡ Err (JournalFault.BadRecord place) → (place ≡ at) × (D.tells → IsBadAt (D.seen disk.old) at) }
     ensures sound { D.tells → IsErrOf result JournalFault.NoMemory → ¬ IsBadAt (D.seen disk.old) at }
     ensures failed { IsErrOf result JournalFault.Failed → Rose (D.faults disk.old) (D.faults disk.new) }
+    ensures passed { IsErrOf result JournalFault.Failed ⊎ (D.faults disk.new ≡ D.faults disk.old) }
     ensures later { D.faults disk.old ≤ D.faults disk.new }
 {
     let bad = JournalFault::BadRecord { at };

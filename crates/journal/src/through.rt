@@ -1,6 +1,6 @@
 //! A write that is on the disk when it is done.
 ghost use Rattle.std.specs.Prelude.{◌≡◌, ◌≤◌, length, OnOk};
-ghost use Rattle.pg_io.specs.Causes.{HasCause};
+ghost use Rattle.pg_io.specs.Causes.{HasExactCause};
 ghost use Rattle.pg_io.specs.Disk.{Holds, Torn, Only, Within, LeavesOnly};
 
 use pg_io::{Disk, Failed};
@@ -15,7 +15,7 @@ pub fn write_through<D: Disk>(disk: &mut D, at: u64, bytes: &[u8]) -> Result<(),
 
     ensures written { D.tells → OnOk result (Holds (D.seen disk.old) at bytes.now (D.seen disk.new)) }
     ensures durable { D.tells → OnOk result (Only (D.seen disk.new) (D.may_leave disk.new)) }
-    ensures cause { HasCause (D.faults disk.old) (D.faults disk.new) result }
+    ensures cause { HasExactCause (D.faults disk.old) (D.faults disk.new) result }
 {
     disk.write_at(at, bytes)?;
     disk.sync()?;

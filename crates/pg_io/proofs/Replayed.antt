@@ -237,6 +237,10 @@ module _ (at : ℕ) (bytes : List ℕ) (old mid new : DiskInMemory) (f : mid.fir
   may_write_of n (Ok u) short put same = inr (bytes, short, writes_of put)
   may_write_of n (Err u) short put same = inl (ap (λ (m : DiskInMemory). m.first) same ∙ f, ap (λ (m : DiskInMemory). m.calls) same ∙ e)
 
+  pub may_put_of : {E : Type 0} (result : Result (Unit {0}) E) → OnOk result (Puts at bytes mid new) → OnErr result (new ≡ mid) → Same old new ⊎ Writes at bytes old new
+  may_put_of (Ok u) put same = inr (writes_of put)
+  may_put_of (Err u) put same = inl (ap (λ (m : DiskInMemory). m.first) same ∙ f, ap (λ (m : DiskInMemory). m.calls) same ∙ e)
+
 -- what was left as it was, in two steps
 pub same_of : (old mid new : DiskInMemory) → Same old mid → Same mid new → Same old new
 same_of old mid new first second = (second.0 ∙ first.0, second.1 ∙ first.1)

@@ -1,5 +1,5 @@
 -- A disk in memory, as its calls made it.
-use Rattle.std.specs.Prelude.{◌≡◌, ◌⊎◌, ℕ, ◌+◌, ◌≤◌, List, [], ◌∷◌, ◌++◌, length, take, drop, Vec, Result, OnOk, OnErr, Contains, IsErr, refl}
+use Rattle.std.specs.Prelude.{◌≡◌, ◌⊎◌, ℕ, ◌+◌, ◌/◌, ◌≤◌, List, [], ◌∷◌, ◌++◌, length, take, drop, Vec, Result, OnOk, OnErr, Contains, IsErr, refl}
 use Rattle.std.specs.declared.alloc.Global.{Global}
 use Rattle.pg_io.specs.Disk.{Torn, Shortened}
 use mathlib.Core.Logic.{inl}
@@ -84,6 +84,10 @@ Writes at bytes old new = (v : Vec ℕ Global) × (v.items ≡ bytes) × Made (W
 -- at most n bytes were written
 abbrev pub MayWrite : ℕ → ℕ → DiskInMemory → DiskInMemory → Type 0
 MayWrite at n old new = Same old new ⊎ ((front : List ℕ) × (length front ≤ n) × Writes at front old new)
+
+-- a write that failed left the front half of its bytes, or nothing
+abbrev pub MayWriteHalf : ℕ → List ℕ → DiskInMemory → DiskInMemory → Type 0
+MayWriteHalf at bytes old new = Same old new ⊎ Writes at (take (length bytes / 2) bytes) old new
 
 -- just these bytes were written, and nothing was counted
 abbrev pub Puts : ℕ → List ℕ → DiskInMemory → DiskInMemory → Type 0

@@ -1,6 +1,6 @@
 //! A disk as a program sees it: what a read gives, and what a crash may leave.
 ghost use Rattle.std.specs.Prelude.{◌≡◌, ◌⊎◌, ◌≤◌, ◌+◌, List, ℕ, length, take, drop, IfOk, OnOk, OnErr};
-ghost use Rattle.pg_io.specs.Causes.{HasCause};
+ghost use Rattle.pg_io.specs.Causes.{HasExactCause};
 ghost use Rattle.pg_io.specs.Disk.{Holds, Torn, Shortened, Follows, Only, Within, Ticks, Still};
 
 use crate::Failed;
@@ -32,14 +32,14 @@ pub trait Disk {
     fn len(&mut self) -> Result<u64, Failed>
         ensures len { tells → IfOk result (λ n. n ≡ length (seen self.old)) }
         ensures still { tells → Still moment seen may_leave left_since self.old self.new }
-        ensures cause { HasCause (faults self.old) (faults self.new) result };
+        ensures cause { HasExactCause (faults self.old) (faults self.new) result };
 
     /// Fills the whole buffer with the bytes from `at` on. All of them are to be there.
     fn read_at(&mut self, at: u64, buf: &mut [u8]) -> Result<(), Failed>
         requires { tells → at + length buf.old ≤ length (seen self.old) }
         ensures bytes { tells → OnOk result (buf.new ≡ take (length buf.old) (drop at (seen self.old))) }
         ensures still { tells → Still moment seen may_leave left_since self.old self.new }
-        ensures cause { HasCause (faults self.old) (faults self.new) result };
+        ensures cause { HasExactCause (faults self.old) (faults self.new) result };
 
     /// Writes all of these bytes over what is there from `at` on, and past the end, which `at` is not to pass.
     /// After `Failed` there may be any bytes in their place.
@@ -49,7 +49,7 @@ pub trait Disk {
         ensures torn { tells → OnErr result (Torn at (length bytes.now) (seen self.old) (seen self.new)) }
         ensures crash { tells → Follows (Torn at (length bytes.now)) (may_leave self.old) (left_since self.new (moment self.old)) }
         ensures time { tells → Ticks moment seen may_leave left_since self.old self.new }
-        ensures cause { HasCause (faults self.old) (faults self.new) result };
+        ensures cause { HasExactCause (faults self.old) (faults self.new) result };
 
     /// Cuts the file to `len` bytes, which are to be there. After `Failed` it was cut or wasn't.
     fn cut(&mut self, len: u64) -> Result<(), Failed>
@@ -58,7 +58,7 @@ pub trait Disk {
         ensures cut_or_not { tells → OnErr result ((seen self.new ≡ seen self.old) ⊎ (seen self.new ≡ take len (seen self.old))) }
         ensures crash { tells → Follows (Shortened len) (may_leave self.old) (left_since self.new (moment self.old)) }
         ensures time { tells → Ticks moment seen may_leave left_since self.old self.new }
-        ensures cause { HasCause (faults self.old) (faults self.new) result };
+        ensures cause { HasExactCause (faults self.old) (faults self.new) result };
 
     /// After it, a crash leaves what a read gives.
     fn sync(&mut self) -> Result<(), Failed>
@@ -66,7 +66,7 @@ pub trait Disk {
         ensures seen { tells → seen self.new ≡ seen self.old }
         ensures crash { tells → Within (left_since self.new (moment self.old)) (may_leave self.old) }
         ensures time { tells → Ticks moment seen may_leave left_since self.old self.new }
-        ensures cause { HasCause (faults self.old) (faults self.new) result };
+        ensures cause { HasExactCause (faults self.old) (faults self.new) result };
 
     // the disk as it reads is one of its images
     ghost reads: { tells → (disk : Self) → may_leave disk (seen disk) };

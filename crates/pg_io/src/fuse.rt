@@ -1,6 +1,6 @@
 //! A disk that fails for good after some calls.
 ghost use Rattle.std.specs.Prelude.{◌≡◌, ◌⊎◌, ◌≤◌, ◌<◌, ◌+◌, ◌-◌, List, ℕ, length, take, drop, IfOk, OnOk, OnErr, IsErr};
-ghost use Rattle.pg_io.specs.Causes.{HasCause, Rose};
+ghost use Rattle.pg_io.specs.Causes.{HasExactCause, Rose};
 ghost use Rattle.pg_io.specs.Disk.{Holds, Torn, Shortened, Follows, Only, Within, Ticks, Still};
 ghost use Rattle.pg_io.specs.Fuse.{Fused, Burns, behind};
 
@@ -82,7 +82,7 @@ impl<D: Disk> Disk for FuseDisk<D> {
     fn len(&mut self) -> Result<u64, Failed>
         ensures len { D.tells → IfOk result (λ n. n ≡ length (D.seen self.old.inner)) }
         ensures still { D.tells → Still (behind D.moment) (behind D.seen) (behind D.may_leave) (behind D.left_since) self.old self.new }
-        ensures cause { HasCause (D.faults self.old.inner + self.old.blown) (D.faults self.new.inner + self.new.blown) result }
+        ensures cause { HasExactCause (D.faults self.old.inner + self.old.blown) (D.faults self.new.inner + self.new.blown) result }
         ensures burns { Burns D.faults self.old self.new result }
     {
         self.pass()?;
@@ -93,7 +93,7 @@ impl<D: Disk> Disk for FuseDisk<D> {
         requires { D.tells → at + length buf.old ≤ length (D.seen self.old.inner) }
         ensures bytes { D.tells → OnOk result (buf.new ≡ take (length buf.old) (drop at (D.seen self.old.inner))) }
         ensures still { D.tells → Still (behind D.moment) (behind D.seen) (behind D.may_leave) (behind D.left_since) self.old self.new }
-        ensures cause { HasCause (D.faults self.old.inner + self.old.blown) (D.faults self.new.inner + self.new.blown) result }
+        ensures cause { HasExactCause (D.faults self.old.inner + self.old.blown) (D.faults self.new.inner + self.new.blown) result }
         ensures burns { Burns D.faults self.old self.new result }
     {
         self.pass()?;
@@ -107,7 +107,7 @@ impl<D: Disk> Disk for FuseDisk<D> {
         ensures torn { D.tells → OnErr result (Torn at (length bytes.now) (D.seen self.old.inner) (D.seen self.new.inner)) }
         ensures crash { D.tells → Follows (Torn at (length bytes.now)) (D.may_leave self.old.inner) (D.left_since self.new.inner (D.moment self.old.inner)) }
         ensures time { D.tells → Ticks (behind D.moment) (behind D.seen) (behind D.may_leave) (behind D.left_since) self.old self.new }
-        ensures cause { HasCause (D.faults self.old.inner + self.old.blown) (D.faults self.new.inner + self.new.blown) result }
+        ensures cause { HasExactCause (D.faults self.old.inner + self.old.blown) (D.faults self.new.inner + self.new.blown) result }
         ensures burns { Burns D.faults self.old self.new result }
     {
         self.pass()?;
@@ -121,7 +121,7 @@ impl<D: Disk> Disk for FuseDisk<D> {
         ensures cut_or_not { D.tells → OnErr result ((D.seen self.new.inner ≡ D.seen self.old.inner) ⊎ (D.seen self.new.inner ≡ take len (D.seen self.old.inner))) }
         ensures crash { D.tells → Follows (Shortened len) (D.may_leave self.old.inner) (D.left_since self.new.inner (D.moment self.old.inner)) }
         ensures time { D.tells → Ticks (behind D.moment) (behind D.seen) (behind D.may_leave) (behind D.left_since) self.old self.new }
-        ensures cause { HasCause (D.faults self.old.inner + self.old.blown) (D.faults self.new.inner + self.new.blown) result }
+        ensures cause { HasExactCause (D.faults self.old.inner + self.old.blown) (D.faults self.new.inner + self.new.blown) result }
         ensures burns { Burns D.faults self.old self.new result }
     {
         self.pass()?;
@@ -134,7 +134,7 @@ impl<D: Disk> Disk for FuseDisk<D> {
         ensures seen { D.tells → D.seen self.new.inner ≡ D.seen self.old.inner }
         ensures crash { D.tells → Within (D.left_since self.new.inner (D.moment self.old.inner)) (D.may_leave self.old.inner) }
         ensures time { D.tells → Ticks (behind D.moment) (behind D.seen) (behind D.may_leave) (behind D.left_since) self.old self.new }
-        ensures cause { HasCause (D.faults self.old.inner + self.old.blown) (D.faults self.new.inner + self.new.blown) result }
+        ensures cause { HasExactCause (D.faults self.old.inner + self.old.blown) (D.faults self.new.inner + self.new.blown) result }
         ensures burns { Burns D.faults self.old self.new result }
     {
         self.pass()?;

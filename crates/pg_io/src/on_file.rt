@@ -1,7 +1,7 @@
 //! A disk that is a file of the system: the trusted edge. It tells nothing of its content, and only that it has
 //! failed where it says so.
 ghost use Rattle.std.specs.Prelude.{◌≡◌, ◌≤◌, ℕ, List, []};
-ghost use Rattle.pg_io.specs.Causes.{Rose, HasCause};
+ghost use Rattle.pg_io.specs.Causes.{Rose, HasExactCause};
 
 use crate::{Disk, Failed};
 use std::fs::{File, Files, OpenFile, OpenOptions};
@@ -114,7 +114,7 @@ impl<R: Files> FileDisk<R> {
 
     // Counts a fault where there is an error.
     fn counted<T>(&mut self, outcome: io::Result<T>) -> Result<T, Failed>
-        ensures { HasCause self.old.faults self.new.faults result }
+        ensures { HasExactCause self.old.faults self.new.faults result }
     {
         match outcome {
             Ok(value) => Ok(value),

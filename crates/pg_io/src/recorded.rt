@@ -1,9 +1,9 @@
 //! A disk in memory that keeps its calls, some of which are to fail.
 ghost use Rattle.std.specs.Prelude.{◌≡◌, ◌⊎◌, ◌↔◌, ◌≤◌, ◌+◌, ◌++◌, [], ◌∷◌, length, take, drop, IfOk, OnOk, OnErr, IsTrue, IsErr, Contains};
 ghost use Rattle.std.specs.Bool.{OnTrue, OnFalse};
-ghost use Rattle.pg_io.specs.Causes.{HasCause, one_more};
+ghost use Rattle.pg_io.specs.Causes.{HasExactCause, one_more};
 ghost use Rattle.pg_io.specs.Disk.{Holds, Torn, Shortened, Follows, Only, Within, Ticks, Still};
-ghost use Rattle.pg_io.specs.Replay.{DiskInMemory, replay, seen_of, images_of, moment_of, since_of, reads_image, counts_image, only_image, Same, Made, MayMake, Writes, MayWrite, Puts, Counts};
+ghost use Rattle.pg_io.specs.Replay.{DiskInMemory, replay, seen_of, images_of, moment_of, since_of, reads_image, counts_image, only_image, Same, Made, MayMake, Writes, MayWrite, MayWriteHalf, Puts, Counts};
 
 use crate::schedule::Schedule;
 use crate::{Disk, Failed};
@@ -26,6 +26,7 @@ pub enum Call {
 ///
 /// A write that is to fail leaves the front half of its bytes, a cut that is to fail is done all the same, and
 /// every other call that fails changes nothing. Where memory is wanting, a call counts a fault and changes nothing.
+/// Each call is counted, and what it changed is kept among the calls.
 #[derive(Drop)]
 pub struct MemDisk {
     alloc: Global,
@@ -163,6 +164,7 @@ impl MemDisk {
         requires { at ≤ length (seen_of self.old) }
         ensures written { OnOk result (Writes at bytes.now self.old self.new) }
         ensures torn { MayWrite at (length bytes.now) self.old self.new }
+        ensures half { OnErr result (MayWriteHalf at bytes.now self.old self.new) }
         ensures counts { Counts self.old self.new result }
     {
         if self.is_due() {
@@ -202,6 +204,7 @@ impl MemDisk {
     fn counted_sync(&mut self) -> Result<(), Failed>
         ensures synced { OnOk result (Made Call.Synced self.old self.new) }
         ensures synced_or_not { MayMake Call.Synced self.old self.new }
+        ensures same { OnErr result (Same self.old self.new) }
         ensures counts { Counts self.old self.new result }
     {
         if self.is_due() {
@@ -239,7 +242,7 @@ impl Disk for MemDisk {
     fn len(&mut self) -> Result<u64, Failed>
         ensures len { IfOk result (λ n. n ≡ length (seen_of self.old)) }
         ensures still { Still moment_of seen_of images_of since_of self.old self.new }
-        ensures cause { HasCause self.old.faults self.new.faults result }
+        ensures cause { HasExactCause self.old.faults self.new.faults result }
         ensures due { IsErr result ↔ Contains self.old.failing self.old.made }
         ensures same { Same self.old self.new }
         ensures counts { Counts self.old self.new result }
@@ -254,7 +257,7 @@ impl Disk for MemDisk {
         requires { at + length buf.old ≤ length (seen_of self.old) }
         ensures bytes { OnOk result (buf.new ≡ take (length buf.old) (drop at (seen_of self.old))) }
         ensures still { Still moment_of seen_of images_of since_of self.old self.new }
-        ensures cause { HasCause self.old.faults self.new.faults result }
+        ensures cause { HasExactCause self.old.faults self.new.faults result }
         ensures due { IsErr result ↔ Contains self.old.failing self.old.made }
         ensures same { Same self.old self.new }
         ensures counts { Counts self.old self.new result }
@@ -272,8 +275,9 @@ impl Disk for MemDisk {
         ensures torn { OnErr result (Torn at (length bytes.now) (seen_of self.old) (seen_of self.new)) }
         ensures crash { Follows (Torn at (length bytes.now)) (images_of self.old) (since_of self.new (moment_of self.old)) }
         ensures time { Ticks moment_of seen_of images_of since_of self.old self.new }
-        ensures cause { HasCause self.old.faults self.new.faults result }
+        ensures cause { HasExactCause self.old.faults self.new.faults result }
         ensures kept { OnOk result (Writes at bytes.now self.old self.new) }
+        ensures half { OnErr result (MayWriteHalf at bytes.now self.old self.new) }
         ensures counts { Counts self.old self.new result }
     {
         self.counted_write(at, bytes)?;
@@ -286,8 +290,9 @@ impl Disk for MemDisk {
         ensures cut_or_not { OnErr result ((seen_of self.new ≡ seen_of self.old) ⊎ (seen_of self.new ≡ take len (seen_of self.old))) }
         ensures crash { Follows (Shortened len) (images_of self.old) (since_of self.new (moment_of self.old)) }
         ensures time { Ticks moment_of seen_of images_of since_of self.old self.new }
-        ensures cause { HasCause self.old.faults self.new.faults result }
+        ensures cause { HasExactCause self.old.faults self.new.faults result }
         ensures kept { OnOk result (Made (Call.Cut len) self.old self.new) }
+        ensures kept_or_not { MayMake (Call.Cut len) self.old self.new }
         ensures counts { Counts self.old self.new result }
     {
         self.counted_cut(len)?;
@@ -299,8 +304,9 @@ impl Disk for MemDisk {
         ensures seen { seen_of self.new ≡ seen_of self.old }
         ensures crash { Within (since_of self.new (moment_of self.old)) (images_of self.old) }
         ensures time { Ticks moment_of seen_of images_of since_of self.old self.new }
-        ensures cause { HasCause self.old.faults self.new.faults result }
+        ensures cause { HasExactCause self.old.faults self.new.faults result }
         ensures kept { OnOk result (Made Call.Synced self.old self.new) }
+        ensures same { OnErr result (Same self.old self.new) }
         ensures counts { Counts self.old self.new result }
     {
         self.counted_sync()?;

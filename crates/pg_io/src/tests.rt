@@ -1,12 +1,13 @@
 // A read or a write that fails in mid-stream, and each call once where nothing fails.
-ghost use Rattle.std.specs.Prelude.{◌≡◌, IfOk};
+ghost use Rattle.std.specs.Prelude.{◌≡◌, ◌≤◌, IfOk};
 
 use crate::{
     Failed, InputFault, MemSink, MemSource, Sink, Source, StdSink, StdSource, read_whole,
     write_whole,
 };
 use std::alloc::Global;
-use std::io::Cursor;
+use std::io;
+use std::io::{Cursor, Read, Write};
 use std::test::Fail;
 
 // What the contract of a generic call says of a source in memory.
@@ -73,5 +74,53 @@ fn passes_on_what_std_reads_and_writes(rt: HostRuntime) -> Result<(), Fail> {
     assert!(rt; write_whole(&mut sink, b"abc") == Ok(()));
     assert!(rt; sink.write(b"defg") == Ok(2));
     assert!(rt; sink.write(b"fg") == Err(Failed));
+    Ok(())
+}
+
+// Moves one byte a call, and fails at its second call.
+#[derive(Drop)]
+struct FailsOnce {
+    calls: u64,
+}
+
+impl FailsOnce {
+    fn move_one(&mut self, room: usize) -> io::Result<usize>
+        ensures { IfOk result (λ n. n ≤ room) }
+    {
+        self.calls = self.calls.saturating_add(1);
+        if self.calls == 2 {
+            return Err(io::ErrorKind::Other.into());
+        }
+        Ok(room.min(1))
+    }
+}
+
+impl Read for FailsOnce {
+    fn read(&mut self, buf: &mut [u8]) -> io::Result<usize> {
+        self.move_one(buf.len())
+    }
+}
+
+impl Write for FailsOnce {
+    fn write(&mut self, bytes: &[u8]) -> io::Result<usize> {
+        self.move_one(bytes.len())
+    }
+
+    fn flush(&mut self) -> io::Result<()> {
+        Ok(())
+    }
+}
+
+#[test]
+fn tells_an_error_of_std_in_mid_stream(rt: HostRuntime) -> Result<(), Fail> {
+    let mut source = StdSource::new(FailsOnce { calls: 0 });
+    let mut buf = [0; 2];
+    assert!(rt; source.read(&mut buf) == Ok(1));
+    assert!(rt; source.read(&mut buf) == Err(Failed));
+    assert!(rt; source.read(&mut buf) == Ok(1));
+    let mut sink = StdSink::new(FailsOnce { calls: 0 });
+    assert!(rt; sink.write(b"ab") == Ok(1));
+    assert!(rt; sink.write(b"ab") == Err(Failed));
+    assert!(rt; sink.write(b"ab") == Ok(1));
     Ok(())
 }

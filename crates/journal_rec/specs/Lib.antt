@@ -1,0 +1,4 @@
+pub mod Body
+pub mod Laws
+pub mod Reading
+pub mod Size
