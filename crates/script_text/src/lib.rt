@@ -12,3 +12,6 @@ mod splitting;
 pub use blocks::read_script;
 pub use lines::{AnyCommand, AnyLine, LaneText, Line, Order, Script};
 pub use reading::{read_any_lines, read_exec};
+
+#[cfg(test)]
+mod tests;

@@ -8,3 +8,6 @@ mod texts;
 
 pub use forms::{Command, Form, Part};
 pub use reading::read_words;
+
+#[cfg(test)]
+mod tests;
