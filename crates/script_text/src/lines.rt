@@ -1,7 +1,7 @@
 //! What the lines of an input say.
-use sql_base::SqlBytes;
+use sql_base::{List, Name, SqlBytes};
 
-/// A command, without the backslash that its line begins with.
+/// A command that runs, without the backslash that its line begins with.
 #[derive(Debug, Drop)]
 pub enum Order {
     /// `\start TEXT`: the migration of this text is to be started. The text is the rest of the line, and may be empty.
@@ -21,4 +21,44 @@ pub enum Line {
     Text(SqlBytes),
     /// A command.
     Command(Order),
+}
+
+/// Any command, those too that `exec` doesn't run yet.
+#[derive(Debug, Drop)]
+pub enum AnyCommand {
+    /// A command that runs.
+    Order(Order),
+    /// `\rollback`: the migration is to be taken back.
+    Rollback,
+    /// `\status`: how far the migration has come is to be told.
+    Status,
+}
+
+/// A line that isn't passed by, of an input in which every command is known.
+#[derive(Debug, Drop)]
+pub enum AnyLine {
+    /// A text that is to be said. It may be a statement, or none.
+    Text(SqlBytes),
+    /// A command.
+    Command(AnyCommand),
+}
+
+/// A lane of a script.
+#[derive(Debug, Drop)]
+pub struct LaneText {
+    /// The lane's name.
+    pub name: Name,
+    /// The version that is the lane's first path, in small letters.
+    pub version: Name,
+    /// The texts that the lane says, in order. Each may be a statement, or none.
+    pub lines: List<SqlBytes>,
+}
+
+/// A script: what is said side by side, and the commands that are given meanwhile.
+#[derive(Debug, Drop)]
+pub struct Script {
+    /// The lanes, in order.
+    pub lanes: List<LaneText>,
+    /// The commands of the control block, in order.
+    pub control: List<AnyCommand>,
 }

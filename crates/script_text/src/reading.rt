@@ -3,34 +3,26 @@ ghost use Rattle.std.specs.Prelude.{◌≤◌, length, IfOk};
 ghost use Rattle.script_text.specs.Script as spec;
 ghost use Rattle.script_text.specs.Steps.{line_at};
 
-use crate::lines::Line;
-use crate::orders::line_of;
+use crate::lines::{AnyLine, Line};
+use crate::orders::LineForm;
 use crate::splitting::{is_passed, split_line};
 use sql_base::{List, ScriptFault};
 use std::alloc::Global;
 
 // What the line of this number says.
-fn line_at(alloc: Global, number: u32, line: &[u8]) -> Result<Line, ScriptFault>
-    ensures { spec.Answers (line_at number line.now) result }
+fn line_at<L: LineForm>(alloc: Global, number: u32, line: &[u8]) -> Result<L, ScriptFault>
+    ensures { spec.Answers (line_at L.said number line.now) result }
 {
-    match line_of(alloc, line)? {
+    match L::of_line(alloc, line)? {
         Some(read) => Ok(read),
         None => Err(ScriptFault::Line(number)),
     }
 }
 
-/// The lines of an input that aren't passed by, in order: what each says.
-///
-/// A line ends with a newline, which the last one may lack; a carriage return directly before a newline belongs to the
-/// line's end. Empty lines, lines of spaces alone and lines that begin with `--` are passed by. A line that begins with
-/// a backslash is a command: `\start TEXT` and `\batch N`, where N has 1 to 9 digits, each with one space, `\fill` and
-/// `\complete`. Every other line is a text. These rules are our own.
-///
-/// `Line` comes exactly where a line begins with a backslash and is none of these commands, with the number of the
-/// first such line. Lines are counted from 1, and those that are passed by count.
-pub fn read_exec(alloc: Global, text: &[u8]) -> Result<List<Line>, ScriptFault>
+// The lines that aren't passed by, in order.
+fn lines_of<L: LineForm>(alloc: Global, text: &[u8]) -> Result<List<L>, ScriptFault>
     requires { length text.now ≤ 16777216 }
-    ensures reading { spec.Answers (spec.script_of text.now) result }
+    ensures reading { spec.Answers (spec.lines_of L.said text.now) result }
     ensures few { IfOk result (λ lines. length lines ≤ length text.now) }
 {
     let mut lines = List::new(alloc);
@@ -45,4 +37,34 @@ pub fn read_exec(alloc: Global, text: &[u8]) -> Result<List<Line>, ScriptFault>
         }
     }
     Ok(lines)
+}
+
+/// The lines of an input that aren't passed by, in order: what each says, of the commands that run.
+///
+/// A line ends with a newline, which the last one may lack; a carriage return directly before a newline belongs to the
+/// line's end. Empty lines, lines of spaces alone and lines that begin with `--` are passed by. A line that begins with
+/// a backslash is a command: `\start TEXT` and `\batch N`, where N has 1 to 9 digits, each with one space, `\fill` and
+/// `\complete`. Every other line is a text. These rules are our own.
+///
+/// `Line` comes exactly where a line begins with a backslash and is none of these commands, with the number of the
+/// first such line. Lines are counted from 1, and those that are passed by count.
+pub fn read_exec(alloc: Global, text: &[u8]) -> Result<List<Line>, ScriptFault>
+    requires { length text.now ≤ 16777216 }
+    ensures reading { spec.Answers (spec.script_of text.now) result }
+    ensures few { IfOk result (λ lines. length lines ≤ length text.now) }
+{
+    lines_of(alloc, text)
+}
+
+/// The lines of an input that aren't passed by, in order: what each says, of all commands.
+///
+/// The rules are those of `read_exec`, where `\rollback` and `\status` are commands too.
+///
+/// `Line` comes exactly where a line begins with a backslash and is no command, with the number of the first such line.
+pub fn read_any_lines(alloc: Global, text: &[u8]) -> Result<List<AnyLine>, ScriptFault>
+    requires { length text.now ≤ 16777216 }
+    ensures reading { spec.Answers (spec.lines_of spec.any_line_of text.now) result }
+    ensures few { IfOk result (λ lines. length lines ≤ length text.now) }
+{
+    lines_of(alloc, text)
 }

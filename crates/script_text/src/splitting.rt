@@ -4,15 +4,15 @@ ghost use Rattle.std.specs.List.{list_all, position_or_len};
 ghost use Rattle.script_text.specs.Input as spec;
 ghost use Rattle.script_text.specs.Steps.{trimmed};
 
-// Where the first newline is, or the length where there is none.
-fn newline_in(bytes: &[u8]) -> usize
-    ensures place { result ≡ position_or_len (λ b. b == 10) bytes.now }
+/// Where the first such byte is, or the length where there is none.
+pub fn place_of(wanted: u8, bytes: &[u8]) -> usize
+    ensures place { result ≡ position_or_len (λ b. b == wanted) bytes.now }
     ensures within { result ≤ length bytes.now }
-    ensures before { (k : ℕ) → k < result → (slice_index bytes.now k == 10) ≡ false }
-    ensures found { result < length bytes.now → slice_index bytes.now result ≡ 10 }
+    ensures before { (k : ℕ) → k < result → (slice_index bytes.now k == wanted) ≡ false }
+    ensures found { result < length bytes.now → slice_index bytes.now result ≡ wanted }
 {
     for (at, byte) in bytes.iter().enumerate() {
-        if *byte == b'\n' {
+        if *byte == wanted {
             return at;
         }
     }
@@ -40,7 +40,7 @@ pub fn split_line(bytes: &[u8]) -> (&[u8], &[u8])
     ensures lines { spec.split_lines bytes.now ≡ result.0.now ∷ spec.split_lines result.1.now }
     ensures less { length result.1.now < length bytes.now }
 {
-    let at = newline_in(bytes);
+    let at = place_of(b'\n', bytes);
     if at < bytes.len() {
         (trimmed(&bytes[..at]), &bytes[at + 1..])
     } else {

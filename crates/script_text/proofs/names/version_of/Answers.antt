@@ -1,0 +1,6 @@
+use Rattle.std.proofs.Common.{sym, ◌∙◌}
+use Rattle.script_text.proofs.Heads.{quoted_no_plain}
+use Rattle.script_text.proofs.names.version_of.Goals as goal
+
+pub returns-then-is_quoted : goal.returns-then-is_quoted
+returns-then-is_quoted c = sym (quoted_no_plain c.args.text.now (sym c.is_quoted.ensures ∙ c.if-is_quoted.true))
