@@ -11,6 +11,7 @@ mod commands;
 mod complete;
 mod engine;
 mod forms;
+mod reach;
 mod start;
 mod statement;
 mod stepping;

@@ -9,11 +9,12 @@ ghost use Rattle.machine.specs.Statement as statement;
 ghost use Rattle.roll_core.specs.Running as spec;
 ghost use Rattle.roll_core.specs.Seen.{seen};
 
+use crate::reach::shown_reached;
 use crate::store::StoredTable;
 use crate::writing::written;
 use machine::parts::{BegunRef, begun, error_reply};
 use machine::{Reply, State};
-use row_rules::{SiteRef, Stop, rows_shown};
+use row_rules::{SiteRef, Stop};
 use sql_base::{Expr, Items, Name, Stmt};
 use std::alloc::Global;
 
@@ -44,8 +45,10 @@ fn shown(
     requires there { spec.IsSite frame.now (sites.site_of site) }
     ensures { spec.Comes frame.now (map seen tables.now) (statement.shown (spec.meant frame.now (map seen tables.now)) (sites.site_of site.entry) items.now condition.now) result (map seen tables.now) }
 {
+    machine::laws::sites_stand();
+    row_rules::reach_laws::standing_rows_show_their_keys();
     let at = place_of(tables, site.here.1);
-    match rows_shown(alloc, site, items, condition, &tables[at]) {
+    match shown_reached(alloc, &tables[at], site, items, condition) {
         Ok(rows) => Ok(Reply::Select(rows)),
         Err(Stop::Because(error)) => Err(Stop::Because(error_reply(error))),
         Err(Stop::NoMemory) => Err(Stop::NoMemory),
