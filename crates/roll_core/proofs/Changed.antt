@@ -1,18 +1,8 @@
 -- Changes that are put into stored rows are the changes of the rows that these mean.
-use Rattle.std.proofs.Common.{arith, ◌≡◌, ◌≤◌, ◌∙◌, ◌+◌, ℕ, List, [], ◌∷◌, ap, refl, sym, subst, length, map}
-use Rattle.std.specs.FinMap as finite
-use Rattle.std.specs.Cmp.{int_cmp_total}
-use Rattle.std.specs.List.{AllByRecursion}
-use Rattle.row_rules.specs.declared.kinds.Change.{Change}
-use Rattle.row_rules.specs.declared.kinds.Change.TheVariants.{Put, Remove}
-use Rattle.row_rules.specs.Changes.{after_change, after_changes}
-use Rattle.machine.specs.Sites.{OfPut}
-use Rattle.row_store.specs.Laws.{RemovedIsLeftOut}
-use Rattle.row_store.specs.Stored.{Rows}
-use Rattle.roll_core.specs.declared.changing.StoredChange.{StoredChange}
-use Rattle.roll_core.specs.declared.forms.Form.{Form}
-use Rattle.roll_core.specs.Changing.{put_all, put_stored, rows_after, stored_change}
-use Rattle.roll_core.specs.Store.{IsStoredRow, kept}
+use Rattle.roll_core.proofs.Words.{arith, ◌≡◌, ◌≤◌, ◌∙◌, ◌+◌, ℕ, List, [], ◌∷◌, ap, refl, sym, subst, length, map, int_cmp_total, AllByRecursion}
+use Rattle.roll_core.proofs.Words.{Change, Put, Remove, after_change, after_changes, OfPut, RemovedIsLeftOut, Rows}
+use Rattle.roll_core.proofs.Words.{StoredChange, Form, put_all, put_stored, rows_after, stored_change, IsStoredRow, kept}
+use Rattle.roll_core.proofs.Words.finite
 use Rattle.roll_core.proofs.Rows.{put-meant, put_all_hold, removed-meant, removed_all_hold}
 use Rattle.roll_core.proofs.Storing.{StoresRow}
 

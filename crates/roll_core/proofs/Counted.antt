@@ -1,24 +1,8 @@
 -- How many rows changes leave.
-use Rattle.std.proofs.Common.{arith, ◌≡◌, ◌≤◌, ◌∙◌, ℕ, suc, ◌+◌, ◌-◌, ℤ, List, [], ◌∷◌, Bool, true, false, ◌||◌, Option, Some, None, Result, Ok, cond, is_some, nat_lt, length, map, filter, ap, refl, sym, subst, int_cmp, int_eq, option_map}
-use Rattle.std.specs.Cmp.{int_cmp_total, int_eq_equiv}
-use Rattle.std.specs.FinMap as finite
-use Rattle.std.specs.List.{AllByRecursion as Each}
-use Rattle.std.specs.Ordering.{eq_by_cmp}
-use Rattle.std.proofs.lemmas.Bool.Decides.{nat_tests}
-use Rattle.sql_base.specs.Laws.{and_then_ok, ok_same}
-use Rattle.sql_base.specs.declared.values.Value.{Value}
-use Rattle.sql_eval.specs.Row.{least}
-use Rattle.row_rules.specs.declared.kinds.Cause.{Cause}
-use Rattle.row_rules.specs.declared.kinds.Change.{Change}
-use Rattle.row_rules.specs.declared.kinds.Change.TheVariants.{Put, Remove}
-use Rattle.row_rules.specs.declared.kinds.Kept.{Kept}
-use Rattle.row_rules.specs.Accept.{has_key, is_taken, key_cause, keys_of, times}
-use Rattle.row_rules.specs.Causes.{taken_key}
-use Rattle.row_rules.specs.Changes.{put_all as put_each, rows_put}
-use Rattle.mig_lens.specs.Plan.{Table}
-use Rattle.row_store.specs.Stored.{Rows}
-use Rattle.roll_core.specs.declared.forms.Form.{Form}
-use Rattle.roll_core.specs.Changing.{put_all, put_stored, stored_change}
+use Rattle.roll_core.proofs.Words.{arith, ◌≡◌, ◌≤◌, ◌∙◌, ℕ, suc, ◌+◌, ◌-◌, ℤ, List, [], ◌∷◌, Bool, true, false, ◌||◌, Option, Some, None, Result, Ok, cond, is_some, nat_lt, length, map, filter, ap, refl, sym, subst, int_cmp, int_eq, option_map, int_cmp_total, int_eq_equiv, Each, eq_by_cmp, nat_tests}
+use Rattle.roll_core.proofs.Words.{and_then_ok, ok_same, Value, least, Cause, Change, Put, Remove, Kept, has_key, is_taken, key_cause, keys_of, times, taken_key, put_each, rows_put, Table, Rows}
+use Rattle.roll_core.proofs.Words.{Form, put_all, put_stored, stored_change}
+use Rattle.roll_core.proofs.Words.finite
 
 -- ---- rows that are put, row by row
 

@@ -1,75 +1,23 @@
 -- A batch: its rows are stored as they are filled, or it is refused as it is refused.
-use Rattle.std.proofs.Common.{◌≡◌, ◌∙◌, ℕ, zero, suc, List, [], ◌∷◌, true, false, Option, Some, None, Result, Ok, Err, filter, map, take, ap, refl, sym, subst, option_map}
-use Rattle.std.specs.Prelude.{slice_get, slice_set}
-use Rattle.std.specs.FinMap as finite
-use Rattle.std.specs.List.{AllByRecursion as Each}
-use Rattle.std.specs.Option.{option_map_or}
-use Rattle.sql_base.specs.Laws.{some_same}
-use Rattle.sql_base.specs.Outcome.{and_then}
-use Rattle.mig_lens.specs.declared.faults.Refusal.{Refusal}
-use Rattle.row_rules.specs.declared.kinds.Cause.{Cause}
-use Rattle.row_rules.specs.declared.kinds.Change.{Change}
-use Rattle.row_rules.specs.declared.kinds.Job.TheVariants as job
-use Rattle.row_rules.specs.declared.kinds.Kept.{Kept}
-use Rattle.row_rules.specs.declared.stops.Stop.{Stop}
-use Rattle.row_rules.specs.declared.stops.Stop.TheVariants.{Because, NoMemory}
-use Rattle.row_rules.specs.Changes.{after_changes, cause_together, changes}
-use Rattle.row_rules.specs.Outcome.{map_fault, without}
-use Rattle.row_rules.specs.Rows.{missing_keys as keys_missing, rows_at}
-use Rattle.row_rules.specs.Site.{is_missing, name_of, number_of}
-use Rattle.machine.specs.declared.events.Reply.{Reply}
-use Rattle.machine.specs.declared.events.Reply.TheVariants.{Filled}
-use Rattle.machine.specs.declared.states.State.{State}
-use Rattle.machine.specs.Done.{CommandOutcome, answered, as_outcome}
-use Rattle.machine.specs.Follows.{goes_on_filling}
-use Rattle.machine.specs.Laws.{FillingStands, leaves_all}
-use Rattle.machine.specs.Migrate.{batch, fill_keys, least_batch, refused_batch}
-use Rattle.machine.specs.Sites.{HalvesAgree, SiteRow}
-use Rattle.machine.specs.Standing.{Ascends}
-use Rattle.machine.specs.State.{Found, Shared, filling_site, missing_keys, rows_of, shared, site_of, with_rows}
-use Rattle.machine.specs.Statement.{changed as changed_by, written_reply}
-use Rattle.machine.specs.Words.{New}
-use Rattle.row_store.specs.Laws.{RemovedIsLeftOut}
-use Rattle.roll_core.specs.declared.forms.Form.{Form}
-use Rattle.roll_core.specs.declared.forms.Form.TheVariants.{Own, Paired, Left, Trimmed}
-use Rattle.roll_core.specs.declared.store.StoredTable.{StoredTable as OwnTable}
-use Rattle.roll_core.specs.Batch.{Fills, FillsThrough, batch_at, batch_changes, changes_at}
-use Rattle.roll_core.specs.Changing.{changed}
-use Rattle.roll_core.specs.Running.{Comes, FormSuits, Runs, RowsStored, SameForms, meant}
-use Rattle.roll_core.specs.Seen.{seen}
-use Rattle.roll_core.specs.Store.{StoredTable, kept, rows_meant, table_meant}
+use Rattle.roll_core.proofs.Words.{◌≡◌, ◌∙◌, ℕ, zero, suc, List, [], ◌∷◌, true, false, Option, Some, None, Result, Ok, Err, filter, map, take, ap, refl, sym, subst, option_map, slice_get, slice_set, Each, option_map_or}
+use Rattle.roll_core.proofs.Words.{and_then_ok, some_same, and_then, Refusal, Cause, Change, Kept, Stop, Because, NoMemory, after_changes, cause_together, changes, map_fault, without, keys_missing, rows_at, is_missing, name_of, number_of, Reply, Filled, State, CommandOutcome, answered, as_outcome, goes_on_filling, FillingStands, leaves_all, batch, fill_keys, least_batch, refused_batch, HalvesAgree, SiteRow, Ascends, Found, Shared, filling_site, missing_keys, rows_of, shared, site_of, with_rows, changed_by, written_reply, New, RemovedIsLeftOut}
+use Rattle.roll_core.proofs.Words.{Form, Own, Paired, Left, Trimmed, OwnTable, Fills, FillsThrough, batch_at, batch_changes, changes_at, changed, Comes, FormSuits, Runs, RowsStored, SameForms, meant, seen, StoredTable, kept, rows_meant, table_meant, Below}
+use Rattle.roll_core.proofs.Words.finite
+use Rattle.roll_core.proofs.Words.job
 use Rattle.roll_core.proofs.Changed.{Stores, changes_meant, changes_stored}
 use Rattle.roll_core.proofs.Fitting.{Weighs, older_weigh}
-use Rattle.roll_core.proofs.Jobs.{WritingHolds, job_stores, stored_agree, stored_sites}
+use Rattle.roll_core.proofs.Jobs.{job_stores, stored_agree, stored_sites}
+use Rattle.roll_core.proofs.Outcomes.{err_by, map_fault_ok, ok_by, without_ok}
 use Rattle.roll_core.proofs.Missing.{each_left, each_taken, first_missing}
-use Rattle.roll_core.proofs.Tables.{IsRead, all_at, all_set, got_mapped, rows_of-read, with_rows-set}
+use Rattle.roll_core.proofs.Tables.{IsRead, all_at, all_set, got_mapped, rows_of-read, same_forms, suits_meant, with_rows-set}
 use Rattle.roll_core.proofs.Written.{placed_weigh}
 
 -- ---- how it is refused, and how not
 
-ok_by : {T U : Type 0} (r : Result T Refusal) (o : T → Option Refusal) (done : T → U) (x : T) → and_then r (λ y. without (o y) y) ≡ Ok x → and_then r (λ y. without (o y) (done y)) ≡ Ok (done x)
-ok_by {T} {U} (Ok y) o done x h = by_fault (o y) h
-  where
-    by_fault : (f : Option Refusal) → without f y ≡ Ok x → without f (done y) ≡ Ok (done x)
-    by_fault None e = let same : y ≡ x = cc in ap (λ z. Ok (done z)) same
-    by_fault (Some fault) e = cc
-ok_by (Err e) o done x h = cc
-
-err_by : {T U : Type 0} (r : Result T Refusal) (o : T → Option Refusal) (done : T → U) (refusal : Refusal) → and_then r (λ y. without (o y) y) ≡ Err refusal → and_then r (λ y. without (o y) (done y)) ≡ Err refusal
-err_by {T} {U} (Ok y) o done refusal h = by_fault (o y) h
-  where
-    by_fault : (f : Option Refusal) → without f y ≡ Err refusal → without f (done y) ≡ Err refusal
-    by_fault None e = cc
-    by_fault (Some fault) e = let same : fault ≡ refusal = cc in ap Err same
-err_by (Err e) o done refusal h = let same : e ≡ refusal = cc in ap Err same
-
 made_by : {T : Type 0} (f : Cause → Refusal) (r : Result T Cause) (o : T → Option Refusal) (x : T) → and_then (map_fault f r) (λ y. without (o y) y) ≡ Ok x → r ≡ Ok x
-made_by {T} f (Ok y) o x h = by_fault (o y) h
-  where
-    by_fault : (f : Option Refusal) → without f y ≡ Ok x → ◌≡◌ {A = Result T Cause} (Ok y) (Ok x)
-    by_fault None e = let same : y ≡ x = cc in ap Ok same
-    by_fault (Some fault) e = cc
-made_by f (Err e) o x h = cc
+made_by f r o x h =
+    let step = and_then_ok (map_fault f r) (λ y. without (o y) y) x h in
+    map_fault_ok f r step.0 step.1 ∙ ap Ok (without_ok (o step.0) step.0 x step.2).1
 
 abbrev refused_as : State → Shared → List Kept → List Change → Option Refusal
 refused_as s both rows all = option_map (refused_batch (name_of both.new)) (cause_together (filling_site s both) job.Fill rows all)
@@ -106,25 +54,6 @@ none_filled frame old outcome runs e = unchanged frame old outcome (Ok Filled) o
 
 -- ---- where rows are filled
 
-pub record FillingHolds : Type 0 where
-  pub writing : WritingHolds
-  pub filling : FillingStands
-  pub removed : RemovedIsLeftOut
-
-suits_meant : (frame : State) (tables : List StoredTable) (number : ℕ) (form : Form) → FormSuits frame number form → FormSuits (meant frame tables) number form
-suits_meant frame tables number Own h = h
-suits_meant frame tables number (Paired pair) h = record { both = h.both; shares = h.shares; over = h.over; is_pair = h.is_pair }
-suits_meant frame tables number (Left pair) h = record { calm = h.calm; is_pair = h.is_pair; shape = h.shape }
-suits_meant frame tables number (Trimmed pair) h = record { calm = h.calm; is_pair = h.is_pair; shape = h.shape }
-
-same_forms : (tables : List StoredTable) (at : ℕ) (table new : StoredTable) → slice_get tables at ≡ Some table → new.number ≡ table.number → new.form ≡ table.form → SameForms tables (slice_set tables at new)
-same_forms [] at table new e n f = cc
-same_forms (first ∷ tables) zero table new e n f =
-    let same = some_same first table e in
-    let here : ◌≡◌ {A = ℕ × Form} (new.number, new.form) (first.number, first.form) = ap (λ k. (k, new.form)) (n ∙ ap (λ (t : StoredTable). t.number) (sym same)) ∙ ap (λ f. (first.number, f)) (f ∙ ap (λ (t : StoredTable). t.form) (sym same)) in
-    ap (λ p. p ∷ map {B = ℕ × Form} (λ table. (table.number, table.form)) tables) here
-same_forms (first ∷ tables) (suc at) table new e n f = ap (λ ps. (first.number, first.form) ∷ ps) (same_forms tables at table new e n f)
-
 -- The table at a place, which both versions have.
 pub record Filling (frame : State) (tables : List OwnTable) (at : ℕ) : Type 0 where
   pub table : OwnTable
@@ -132,7 +61,7 @@ pub record Filling (frame : State) (tables : List OwnTable) (at : ℕ) : Type 0 
   pub here : slice_get tables at ≡ Some table
   pub shares : shared frame table.number ≡ Some both
 
-stores : FillingHolds → (frame : State) (tables : List OwnTable) (at n : ℕ) (f : Filling frame tables at) → Runs frame (map seen tables) → (all : List Change) → changes (filling_site frame f.both) job.Fill (take n (filter is_missing (rows_meant (seen f.table)))) ≡ Ok all → Each (Stores f.table.form f.table.rows.rows) all
+stores : Below → (frame : State) (tables : List OwnTable) (at n : ℕ) (f : Filling frame tables at) → Runs frame (map seen tables) → (all : List Change) → changes (filling_site frame f.both) job.Fill (take n (filter is_missing (rows_meant (seen f.table)))) ≡ Ok all → Each (Stores f.table.form f.table.rows.rows) all
 stores law frame tables at n f runs all e =
     let s = meant frame (map seen tables) in
     let form = f.table.form in
@@ -145,12 +74,12 @@ stores law frame tables at n f runs all e =
     let read = rows_of-read frame (map seen tables) at f.table.number (seen f.table) runs.stands (record { here = got; numbered = refl }) in
     let is = ap (rows_of s) there.0 ∙ read in
     let some : (P : Kept → Type 0) → Each P (map (kept form) rows) → Each P (take n (filter is_missing (map (kept form) rows))) = λ P h. each_taken P n (filter is_missing (map (kept form) rows)) (each_left P is_missing (map (kept form) rows) h) in
-    job_stores law.writing s found runs.stands there.1 form f.table.rows.rows suits job.Fill refl tt (take n (filter is_missing (map (kept form) rows)))
-    (some (SiteRow (λ lost. Unit {0}) (site_of s found)) (stored_sites law.writing.rows law.writing.on_site s found runs.stands there.1 (map (kept form) rows) is))
-    (λ both h. some (λ row. HalvesAgree both.lens row.halves) (stored_agree law.writing.storing.long s (number_of f.both.new) form suits rows both h))
+    job_stores law s found runs.stands there.1 form f.table.rows.rows suits job.Fill refl tt (take n (filter is_missing (map (kept form) rows)))
+    (some (SiteRow (λ lost. Unit {0}) (site_of s found)) (stored_sites law.rows law.on_site s found runs.stands there.1 (map (kept form) rows) is))
+    (λ both h. some (λ row. HalvesAgree both.lens row.halves) (stored_agree law.storing.long s (number_of f.both.new) form suits rows both h))
     (Weighs form f.table.rows.rows) (some (λ row. Weighs form f.table.rows.rows row.key row.lost) (older_weigh form f.table.rows.rows stored)) all e (placed_weigh form f.table.rows.rows (site_of s found) all)
 
-pub filled : FillingHolds → (frame : State) (tables : List OwnTable) (at n : ℕ) (f : Filling frame tables at) → Runs frame (map seen tables) → (result : Result Reply (Stop Reply)) (new : List StoredTable) → FillsThrough (filling_site frame f.both) job.Fill at n tables result new → Fills frame (map seen tables) (batch_at frame (map seen tables) (Some at) n) result new
+pub filled : Below → (frame : State) (tables : List OwnTable) (at n : ℕ) (f : Filling frame tables at) → Runs frame (map seen tables) → (result : Result Reply (Stop Reply)) (new : List StoredTable) → FillsThrough (filling_site frame f.both) job.Fill at n tables result new → Fills frame (map seen tables) (batch_at frame (map seen tables) (Some at) n) result new
 filled law frame tables at n f runs result new h = by_result result h
   where
     got : slice_get (map seen tables) at ≡ Some (seen f.table)
@@ -170,7 +99,7 @@ filled law frame tables at n f runs result new h = by_result result h
 
     is : batch_at frame (map seen tables) (Some at) n ≡ and_then (made (meant frame (map seen tables)) f.both n (rows_meant (seen f.table))) (λ all. without (refused_as (meant frame (map seen tables)) f.both (rows_meant (seen f.table)) all) (changed_by (meant frame (map seen tables)) (filling_site frame f.both) job.Fill all))
     is = ap (least_batch (meant frame (map seen tables)) n) (ap (option_map (λ (table : StoredTable). table.number)) got)
-        ∙ taken (meant frame (map seen tables)) f.table.number n f.both (rows_meant (seen f.table)) f.shares rows_are (subst Ascends rows_are (law.writing.rows (meant frame (map seen tables)) f.table.number runs.stands).0)
+        ∙ taken (meant frame (map seen tables)) f.table.number n f.both (rows_meant (seen f.table)) f.shares rows_are (subst Ascends rows_are (law.rows (meant frame (map seen tables)) f.table.number runs.stands).0)
         ∙ batch_over (meant frame (map seen tables)) f.both n (rows_meant (seen f.table)) rows_there
 
     at_table : (r : Result (List Change) Refusal) → changes_at (filling_site frame f.both) job.Fill at n tables ≡ Some r → batch_changes (filling_site frame f.both) job.Fill (rows_meant (seen f.table)) n ≡ r

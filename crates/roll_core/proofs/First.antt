@@ -1,24 +1,13 @@
 -- What an engine stores at first.
-use Rattle.std.proofs.Common.{arith, ◌≡◌, ◌∙◌, List, [], ◌∷◌, ◌++◌, None, ap, refl, sym, int_cmp, length}
-use Rattle.std.specs.FinMap as finite
-use Rattle.sql_base.specs.declared.values.Value.{Value}
-use Rattle.machine.specs.declared.states.State.{State}
-use Rattle.machine.specs.Laws.{RunsReachLawful, RunsReachStates}
-use Rattle.machine.specs.State.{beginning}
-use Rattle.roll_core.specs.declared.forms.Form.TheVariants.{Own}
+use Rattle.roll_core.proofs.Words.{nil_from_length, ◌≡◌, ◌∙◌, List, [], ◌∷◌, ◌++◌, None, ap, refl, sym, int_cmp, length}
+use Rattle.roll_core.proofs.Words.{Value, State, RunsReachLawful, RunsReachStates, beginning, Rows}
+use Rattle.roll_core.proofs.Words.{Own, first_stored, parts, seen, IsStored, StoredRow, Stored, meaning}
+use Rattle.roll_core.proofs.Words.finite
+use Rattle.roll_core.proofs.Words.store
 use Rattle.roll_core.specs.declared.store.StoredTable.{StoredTable}
-use Rattle.roll_core.specs.Engine.{first_stored}
-use Rattle.roll_core.specs.Seen.{parts, seen}
-use Rattle.roll_core.specs.Store as store
-use Rattle.roll_core.specs.Store.{IsStored, StoredRow, Stored, meaning}
-use Rattle.row_store.specs.Stored.{Rows}
-
-none_of : {X : Type 0} (xs : List X) → length xs ≡ 0 → xs ≡ []
-none_of [] e = refl
-none_of (x ∷ xs) e = absurd (omega (arith, e))
 
 no_rows : (rows : Rows) → rows ≡ finite.empty → finite.entries rows ≡ []
-no_rows rows e = ap finite.entries e ∙ none_of (finite.entries {X = List Value} {R = int_cmp} finite.empty) (sym (finite.len-entries finite.empty) ∙ finite.len-empty int_cmp (List Value))
+no_rows rows e = ap finite.entries e ∙ nil_from_length (finite.entries {X = List Value} {R = int_cmp} finite.empty) (sym (finite.len-entries finite.empty) ∙ finite.len-empty int_cmp (List Value))
 
 first_seen : (table : StoredTable) → table.number ≡ 1 → table.form ≡ Own → table.rows.rows ≡ finite.empty → ◌≡◌ {A = store.StoredTable} (seen table) (record { number = 1; form = Own; rows = [] })
 first_seen table n f r = rw (n, f, no_rows table.rows.rows r) refl

@@ -1,40 +1,14 @@
 -- The rows that a job puts can be stored in the form of their table.
-use Rattle.std.proofs.Common.{◌≡◌, ◌∙◌, ℕ, ℤ, List, [], ◌∷◌, Bool, true, false, ◌&&◌, Option, Some, None, is_some, cond, int_cmp, Ordering, Less, Equal, Greater, map, ap, refl, sym, subst, option_map, option_and_then}
-use Rattle.std.specs.Prelude.{T}
-use Rattle.std.specs.Cmp.{int_eq_equiv}
-use Rattle.std.specs.FinMap as finite
-use Rattle.std.specs.FinMap.{find, is_sorted}
-use Rattle.std.specs.FinMap.Entries.{below_all}
-use Rattle.std.specs.List.{AllByRecursion as Each}
-use Rattle.std.specs.Ordering.{eq_by_cmp, is_eq, is_lt}
-use Rattle.sql_base.specs.Fit.{row_fits}
-use Rattle.sql_base.specs.Laws.{some_same}
-use Rattle.sql_base.specs.declared.values.Value.{Value}
-use Rattle.mig_lens.specs.Plan.{Table, table_numbered}
-use Rattle.row_rules.specs.declared.kinds.Halves.{Halves}
-use Rattle.row_rules.specs.declared.kinds.Kept.{Kept}
-use Rattle.row_rules.specs.Site.{Beside, number_of, shape_of}
-use Rattle.row_store.specs.Stored.{Rows}
-use Rattle.machine.specs.declared.states.Mode.TheVariants.{Calm}
-use Rattle.machine.specs.declared.states.State.{State}
-use Rattle.machine.specs.Sites.{HalvesAgree, PairStands, SiteRow, TableStands, may_miss_beside, new_table_by, table_by}
-use Rattle.machine.specs.Standing.{HalfStands, NewStands}
-use Rattle.machine.specs.State.{Found, Shared, beside_on, lens_between, newer_schema, shared, site_of, table_on}
-use Rattle.machine.specs.Words.{New, Old, Side}
-use Rattle.phase_steps.specs.Laws.{FilledBefore}
-use Rattle.trigger_pair.specs.declared.pairs.Pair.{Pair}
-use Rattle.roll_core.specs.declared.forms.Form.{Form}
-use Rattle.roll_core.specs.declared.forms.Form.TheVariants.{Own, Paired, Left, Trimmed}
-use Rattle.roll_core.specs.Running.{FormSuits, LeftBy}
-use Rattle.roll_core.specs.Store.{IsStoredRow, StoredRow, kept, lost_columns_by, pair_over}
+use Rattle.roll_core.proofs.Words.{◌≡◌, ◌∙◌, ℕ, ℤ, List, [], ◌∷◌, Bool, true, false, ◌&&◌, Option, Some, None, is_some, cond, int_cmp, Ordering, Less, Equal, Greater, map, ap, refl, sym, subst, option_map, option_and_then, T, int_eq_equiv, is_sorted, below_all, Each, eq_by_cmp, is_eq, is_lt}
+use Rattle.roll_core.proofs.Words.{row_fits, some_same, Value, Table, table_numbered, Halves, Kept, Beside, number_of, shape_of, Rows, Calm, State, HalvesAgree, PairStands, SiteRow, TableStands, may_miss_beside, new_table_by, table_by, HalfStands, NewStands, Found, Shared, beside_on, lens_between, newer_schema, shared, site_of, table_on, New, Old, Side, FilledBefore, Pair}
+use Rattle.roll_core.proofs.Words.{Form, Own, Paired, Left, Trimmed, FormSuits, LeftBy, IsStoredRow, StoredRow, kept, lost_columns_by, pair_over}
+use Rattle.roll_core.proofs.Words.finite
+use Rattle.std.specs.FinMap.{find}
 use Rattle.roll_core.proofs.Made.{HasNew}
+use Rattle.roll_core.proofs.Stepped.{split}
 use Rattle.roll_core.proofs.Storing.{AloneFits, FormStands, Storable, Together, lost_over}
 
 -- ---- what is stored under a key
-
-split : (a b : Bool) → T (a && b) → T a × T b
-split true b h = (tt, h)
-split false b h = absurd h
 
 less_differs : (o : Ordering) → T (is_lt o) → is_eq o ≡ false
 less_differs Less h = refl

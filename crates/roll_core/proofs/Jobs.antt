@@ -1,42 +1,12 @@
 -- What a job changes can be stored.
-use Rattle.std.proofs.Common.{arith, ◌≡◌, ◌∙◌, ◌<◌, ◌+◌, ℕ, zero, suc, ℤ, List, [], ◌∷◌, Bool, true, false, if◌then◌else◌, Option, Some, None, Ok, length, map, ap, refl, sym, subst, option_map}
-use Rattle.std.specs.Prelude.{slice_get, slice_index_or}
-use Rattle.std.specs.FinMap as finite
-use Rattle.std.specs.List.{AllByRecursion as Each}
-use Rattle.std.proofs.lemmas.Bool.Decides.{nat_tests}
-use Rattle.std.proofs.lemmas.List.{get_or-take}
-use Rattle.sql_base.specs.Laws.{some_same}
-use Rattle.sql_base.specs.declared.values.Value.{Value}
-use Rattle.sql_base.specs.declared.values.Value.TheVariants.{Null}
-use Rattle.mig_lens.specs.declared.columns.Cell.{Cell}
-use Rattle.mig_lens.specs.declared.columns.Cell.TheVariants.{Carry, Make, Still}
-use Rattle.mig_lens.specs.Lens.{is_carried_from}
-use Rattle.mig_lens.specs.Plan.{Table}
-use Rattle.row_rules.specs.declared.kinds.Change.{Change}
-use Rattle.row_rules.specs.declared.kinds.Change.TheVariants.{Put, Remove}
-use Rattle.row_rules.specs.declared.kinds.Job.{Job}
-use Rattle.row_rules.specs.declared.kinds.Kept.{Kept}
-use Rattle.row_rules.specs.Changes.{changes}
-use Rattle.row_rules.specs.Site.{Site, number_of, shape_of}
-use Rattle.machine.specs.declared.states.Mode.TheVariants.{Calm}
-use Rattle.machine.specs.declared.states.State.{State}
-use Rattle.machine.specs.Laws.{ChangesAgree, ChangesKeep, RowsOnSites, RowsStandBy, SharedStands}
-use Rattle.machine.specs.Sites.{BesideStands, ChangeAgrees, ChangeStands, HalvesAgree, JobStands, OfPut, PairStands, SiteRow, SiteStands, TableStands}
-use Rattle.machine.specs.Standing.{IsState, RowsStand}
-use Rattle.machine.specs.State.{Found, Shared, beside_on, rows_of, shared, site_of, table_on}
-use Rattle.machine.specs.Words.{New, Old, Side}
-use Rattle.row_store.specs.Stored.{Rows}
-use Rattle.trigger_pair.specs.declared.pairs.Pair.{Pair}
-use Rattle.trigger_pair.specs.Laws.{IsPair, PairsAreLong}
-use Rattle.trigger_pair.specs.Stored.{is_marked, new_half, new_view, old_view, places}
-use Rattle.roll_core.specs.declared.forms.Form.{Form}
-use Rattle.roll_core.specs.declared.forms.Form.TheVariants.{Own, Paired, Left, Trimmed}
-use Rattle.roll_core.specs.Running.{FormSuits}
-use Rattle.roll_core.specs.Store.{StoredRow, kept}
+use Rattle.roll_core.proofs.Words.{slice_get_within, arith, ◌≡◌, ◌∙◌, ◌<◌, ◌+◌, ℕ, zero, suc, ℤ, List, [], ◌∷◌, Bool, true, false, if◌then◌else◌, Option, Some, None, Ok, length, map, ap, refl, sym, subst, option_map, slice_get, slice_index_or, Each, nat_tests, get_or-take}
+use Rattle.roll_core.proofs.Words.{some_same, Value, Null, Cell, Carry, Make, Still, is_carried_from, Table, Change, Put, Remove, Job, Kept, changes, Site, number_of, shape_of, Calm, State, ChangesAgree, ChangesKeep, RowsOnSites, RowsStandBy, SharedStands, BesideStands, ChangeAgrees, ChangeStands, HalvesAgree, JobStands, OfPut, PairStands, SiteRow, SiteStands, TableStands, IsState, RowsStand, Found, Shared, beside_on, rows_of, shared, site_of, table_on, New, Old, Side, Rows, Pair, IsPair, PairsAreLong, is_marked, new_half, new_view, old_view, places}
+use Rattle.roll_core.proofs.Words.{Form, Own, Paired, Left, Trimmed, FormSuits, StoredRow, kept, Below}
+use Rattle.roll_core.proofs.Words.finite
 use Rattle.roll_core.proofs.Changed.{Stores}
 use Rattle.roll_core.proofs.Fitting.{Weighs, calm_shared, form_stands, storable}
 use Rattle.roll_core.proofs.Made.{HasNew, Placed, PutBy, SideOf, changes_placed}
-use Rattle.roll_core.proofs.Storing.{StoringHolds, stores_row}
+use Rattle.roll_core.proofs.Storing.{stores_row}
 
 -- ---- what two views of a stored row have in common
 
@@ -55,11 +25,6 @@ carried_at next (Carry from ∷ cells) row (suc i) j e = carried_at next cells r
 carried_at next (Make up ∷ cells) row (suc i) j e = carried_at (next + 1) cells row i j e
 carried_at next (Still x ∷ cells) row (suc i) j e = carried_at (next + 1) cells row i j e
 
-within : (cells : List Cell) (at : ℕ) (cell : Cell) → slice_get cells at ≡ Some cell → at < length cells
-within [] at cell e = cc
-within (first ∷ cells) zero cell e = omega arith
-within (first ∷ cells) (suc at) cell e = let there = within cells at cell e in omega (arith, there)
-
 half_shown : (marked : Bool) (view new : List Value) → (if marked then None else Some view) ≡ Some new → view ≡ new
 half_shown true view new e = cc
 half_shown false view new e = some_same view new e
@@ -69,7 +34,7 @@ pair_agrees long pair p row old new i j o n c =
     let shown = half_shown (is_marked pair row) (new_view pair row) new n in
     let was = some_same (old_view pair row) old o in
     let back = cell_carried (slice_get pair.lens.old_cols j) i (sym (p.lens.both_ways i j) ∙ c) in
-    let inside = within pair.lens.old_cols j (Carry i) back in
+    let inside = slice_get_within pair.lens.old_cols j (Carry i) back in
     let lengths = (long pair p).0 in
     let few : j < length pair.old.columns = omega (arith, inside, lengths) in
     ap (λ xs. slice_index_or xs i Null) (sym shown) ∙ carried_at (length pair.old.columns) pair.lens.new_cols row i j (cell_carried (slice_get pair.lens.new_cols i) j c)
@@ -102,22 +67,16 @@ joins : (side : Side) (here : Table) (both : Shared) (s : State) (number : ℕ) 
 joins Old here both s number p on = subst (λ t. BesideStands Old t (Some (beside_on Old both))) (some_same both.old here (sym p.old ∙ on)) (record { fitting = p.fitting; well_formed = p.well_formed })
 joins New here both s number p on = subst (λ t. BesideStands New t (Some (beside_on New both))) (some_same both.new here (sym p.new ∙ on)) (record { fitting = p.fitting; well_formed = p.well_formed })
 
-site_stands : (s : State) (found : Found) (both : Shared) → PairStands s (number_of found.table) both → TableStands s found → shared s (number_of found.table) ≡ Some both → SiteStands (site_of s found)
-site_stands s found both p t is =
-    let there = ap (option_map (beside_on found.side)) is in
-    record { well_formed = t.well_formed; beside = subst (BesideStands found.side found.table) (sym there) (joins found.side found.table both s (number_of found.table) p t.on_side) }
+pub site_stands : Below → (s : State) (found : Found) → IsState s → TableStands s found → SiteStands (site_of s found)
+site_stands law s found is t = record { well_formed = t.well_formed; beside = by_shared (shared s (number_of found.table)) refl }
+  where
+    by_shared : (o : Option Shared) → shared s (number_of found.table) ≡ o → BesideStands found.side found.table (option_map (beside_on found.side) o)
+    by_shared None e = tt
+    by_shared (Some both) e = joins found.side found.table both s (number_of found.table) (law.shared s (number_of found.table) both is e) t.on_side
 
 -- ---- the changes of a job
 
-pub record WritingHolds : Type 0 where
-  pub storing : StoringHolds
-  pub shared : SharedStands
-  pub rows : RowsStandBy
-  pub on_site : RowsOnSites
-  pub changes : ChangesKeep
-  pub agree : ChangesAgree
-
-each_stores : StoringHolds → (s : State) (found : Found) → TableStands s found → ((both : Shared) → shared s (number_of found.table) ≡ Some both → PairStands s (number_of found.table) both) → (form : Form) (rows : Rows) → FormSuits s (number_of found.table) form → (all : List Change)
+each_stores : Below → (s : State) (found : Found) → TableStands s found → ((both : Shared) → shared s (number_of found.table) ≡ Some both → PairStands s (number_of found.table) both) → (form : Form) (rows : Rows) → FormSuits s (number_of found.table) form → (all : List Change)
     → Each (ChangeStands (λ lost. Unit {0}) (site_of s found)) all → Each (OfPut (λ row. HasNew (site_of s found).there row.halves)) all → ((both : Shared) → shared s (number_of found.table) ≡ Some both → Each (ChangeAgrees both.lens) all) → Each (OfPut (λ row. Weighs form rows row.key row.lost)) all
     → Each (Stores form rows) all
 each_stores law s found stands pairs form rows suits [] sites has agrees weighs = tt
@@ -137,7 +96,7 @@ has_each P site (Put row ∷ all) h = (h.0.has_new, has_each P site all h.1)
 has_each P site (Remove key ∷ all) h = (tt, has_each P site all h.1)
 
 -- The changes of a job to rows of a table in a state that stands are stored so that they are meant, where the lost weights are those of what is stored.
-pub job_stores : WritingHolds → (s : State) (found : Found) → IsState s → TableStands s found → (form : Form) (rows : Rows) → FormSuits s (number_of found.table) form → (what : Job) → SideOf (site_of s found) what → JobStands (shape_of found.table) what
+pub job_stores : Below → (s : State) (found : Found) → IsState s → TableStands s found → (form : Form) (rows : Rows) → FormSuits s (number_of found.table) form → (what : Job) → SideOf (site_of s found) what → JobStands (shape_of found.table) what
     → (older : List Kept) → Each (SiteRow (λ lost. Unit {0}) (site_of s found)) older → ((both : Shared) → shared s (number_of found.table) ≡ Some both → Each (λ row. HalvesAgree both.lens row.halves) older)
     → (P : ℤ → ℕ → Type 0) → PutBy P (site_of s found) what older → (all : List Change) → changes (site_of s found) what older ≡ Ok all → (Each (OfPut (Placed P (site_of s found))) all → Each (OfPut (λ row. Weighs form rows row.key row.lost)) all)
     → Each (Stores form rows) all
@@ -149,8 +108,8 @@ job_stores law s found is stands form rows suits what side job older sites agree
     let made = law.changes s found what older all is stands job sites e in
     let agrees : (both : Shared) → shared s number ≡ Some both → Each (ChangeAgrees both.lens) all = λ both h.
     subst (λ lens. Each (ChangeAgrees lens) all) (lens_beside found.side both)
-    (law.agree site (beside_on found.side both) what older all (site_stands s found both (pairs both h) stands h) (ap (option_map (beside_on found.side)) h) (subst (λ lens. Each (λ row. HalvesAgree lens row.halves) older) (sym (lens_beside found.side both)) (agree both h)) e) in
-    each_stores law.storing s found stands pairs form rows suits all made (has_each P site all placed) agrees (weighs placed)
+    (law.agree site (beside_on found.side both) what older all (site_stands law s found is stands) (ap (option_map (beside_on found.side)) h) (subst (λ lens. Each (λ row. HalvesAgree lens row.halves) older) (sym (lens_beside found.side both)) (agree both h)) e) in
+    each_stores law s found stands pairs form rows suits all made (has_each P site all placed) agrees (weighs placed)
 
 pub stored_agree : PairsAreLong → (s : State) (number : ℕ) (form : Form) → FormSuits s number form → (rows : List StoredRow) (both : Shared) → shared s number ≡ Some both → Each (λ row. HalvesAgree both.lens row.halves) (map (kept form) rows)
 stored_agree long s number form suits rows both is = older_agree long s number form suits both is rows

@@ -1,63 +1,13 @@
 -- The first step of completing leaves stored rows that mean what the machine leaves.
-use Rattle.std.proofs.Common.{arith, ◌≡◌, ◌∙◌, ℕ, zero, suc, ℤ, List, [], ◌∷◌, ◌++◌, take, drop, Bool, true, false, ◌||◌, ◌==◌, Option, Some, None, Ok, Err, inl, inr, ◌⊎◌, find, is_none, is_some, nat_eq, nat_lt, map, filter, cond, ap, refl, sym, subst, length, option_map, option_and_then, if◌then◌else◌}
-use Rattle.std.specs.Prelude.{slice_get}
-use Rattle.std.specs.List.{AllByRecursion, cons_option, filter_map, list_any}
-use Rattle.std.specs.Option.{option_map_or, option_or}
-use Rattle.std.proofs.lemmas.Bool.Decides.{nat_tests}
-use Rattle.sql_base.specs.Laws.{either_none, some_same}
-use Rattle.sql_base.specs.declared.shapes.Schema.{Schema}
-use Rattle.sql_base.specs.declared.values.Value.{Value}
-use Rattle.sql_eval.specs.Row.{least}
-use Rattle.mig_lens.specs.declared.columns.Lens.{Lens}
-use Rattle.mig_lens.specs.declared.faults.Kind.{Kind}
-use Rattle.mig_lens.specs.declared.faults.Kind.TheVariants as kind
-use Rattle.mig_lens.specs.declared.faults.Refusal.{Refusal}
-use Rattle.mig_lens.specs.declared.faults.Refusal.TheVariants.{NotFilled, Unfinished}
-use Rattle.mig_lens.specs.declared.plans.Fate.{Fate}
-use Rattle.mig_lens.specs.Plan.{table_numbered}
-use Rattle.row_rules.specs.declared.kinds.Kept.{Kept}
-use Rattle.row_rules.specs.Outcome.{first_some, without}
+use Rattle.roll_core.proofs.Words.{arith, ◌≡◌, ◌∙◌, ℕ, zero, suc, ℤ, List, [], ◌∷◌, ◌++◌, take, drop, Bool, true, false, ◌||◌, ◌==◌, Option, Some, None, Ok, Err, inl, inr, ◌⊎◌, find, is_none, is_some, nat_eq, nat_lt, map, filter, cond, ap, refl, sym, subst, length, option_map, option_and_then, if◌then◌else◌, slice_get, AllByRecursion, cons_option, filter_map, list_any, option_map_or, option_or, nat_tests}
+use Rattle.roll_core.proofs.Words.{either_none, some_same, Schema, Value, least, Lens, Kind, Refusal, NotFilled, Unfinished, Fate, table_numbered, Kept, first_some, without, name_of, invalid_cause, Mode, Calm, Both, State, complete, completed, completed_row, completed_tables, finish, lost_columns_in, lost_in_table, not_valid, numbers_of, stepped, tidied, CommandOutcome, Complete, IsState, ModeStands, NewerStands, Shared, lens_among, lens_between, newer_schema, rows_of, shared, table_on, New, Pair, IsPair, UnfilledRowsAreBegun, IsFilledRow, IsPairedRow, is_marked, new_view, old_view}
+use Rattle.roll_core.proofs.Words.{Paired, Left, Former, meant, numbers_in, AreKept, Goes, former_by, former_of, invalid_in, left_by, left_form, left_frame, left_parts, left_table, lost_by, lost_columns, may_not_complete, not_filled_in, IsStored, IsStoredRow, IsStoredTable, Stored, StoredRow, StoredTable, form_in, kept, lost_columns_by, over_pair, pair_over, rows_meant, table_meant}
+use Rattle.roll_core.proofs.Words.kind
+use Rattle.roll_core.proofs.Words.migrate
 use Rattle.row_rules.specs.Rows.{missing_keys}
-use Rattle.row_rules.specs.Site.{name_of}
-use Rattle.row_rules.specs.Steps.{invalid_cause}
-use Rattle.machine.specs.declared.states.Mode.{Mode}
-use Rattle.machine.specs.declared.states.Mode.TheVariants.{Calm, Both}
-use Rattle.machine.specs.declared.states.State.{State}
-use Rattle.machine.specs.Migrate as migrate
-use Rattle.machine.specs.Migrate.{complete, completed, completed_row, completed_tables, finish, lost_columns_in, lost_in_table, not_valid, numbers_of, stepped, tidied}
-use Rattle.machine.specs.Done.{CommandOutcome}
-use Rattle.machine.specs.declared.events.Reply.TheVariants.{Complete}
-use Rattle.machine.specs.Standing.{IsState, ModeStands, NewerStands}
-use Rattle.machine.specs.State.{Shared, lens_among, lens_between, newer_schema, rows_of, shared, table_on}
-use Rattle.machine.specs.Words.{New}
-use Rattle.trigger_pair.specs.declared.pairs.Pair.{Pair}
-use Rattle.trigger_pair.specs.Laws.{IsPair, UnfilledRowsAreBegun}
-use Rattle.trigger_pair.specs.Rows.{IsFilledRow, IsPairedRow}
-use Rattle.trigger_pair.specs.Stored.{is_marked, new_view, old_view}
-use Rattle.roll_core.specs.declared.forms.Form.TheVariants.{Paired, Left}
-use Rattle.roll_core.specs.declared.store.Former.{Former}
-use Rattle.roll_core.specs.Running.{meant, numbers_in}
-use Rattle.roll_core.specs.Stepping.{AreKept, Goes, former_by, former_of, invalid_in, left_by, left_form, left_frame, left_parts, left_table, lost_by, lost_columns, may_not_complete, not_filled_in}
-use Rattle.roll_core.specs.Store.{IsStored, IsStoredRow, IsStoredTable, Stored, StoredRow, StoredTable, form_in, kept, lost_columns_by, over_pair, pair_over, rows_meant, table_meant}
-use Rattle.roll_core.proofs.Pairing.{joined_both, joined_pair, shared_in, shared_of, shared_parts}
+use Rattle.roll_core.proofs.Runs.{BothHave, both_have}
 use Rattle.roll_core.proofs.Tidying.{same_parts}
-use Rattle.roll_core.proofs.Tables.{all_at, numbers_of-meant, rows_of-read}
-
--- ---- of each table
-
--- What holds of the one at each place holds of each.
-each_place : {X : Type 0} (P : X → Type 0) (xs : List X) → ((at : ℕ) (x : X) → slice_get xs at ≡ Some x → P x) → AllByRecursion P xs
-each_place P [] h = tt
-each_place P (x ∷ xs) h = (h 0 x refl, each_place P xs (λ at y e. h (suc at) y e))
-
-own_number : (tables : List StoredTable) (at : ℕ) (table : StoredTable) → slice_get tables at ≡ Some table → list_any (nat_eq table.number) (numbers_in tables) ≡ true
-own_number [] at table e = cc
-own_number (first ∷ tables) zero table e = let same : first ≡ table = some_same first table e in let is : first.number ≡ table.number = ap (λ (t : StoredTable). t.number) same in grind (arith, nat_tests)
-own_number (first ∷ tables) (suc at) table e = later (nat_eq table.number first.number) (own_number tables at table e)
-  where
-    later : (b : Bool) → list_any (nat_eq table.number) (numbers_in tables) ≡ true → (b || list_any (nat_eq table.number) (numbers_in tables)) ≡ true
-    later true h = refl
-    later false h = h
+use Rattle.roll_core.proofs.Tables.{all_at, each_place, numbers_of-meant, own_number, rows_of-read}
 
 -- ---- why it may not be completed
 
@@ -192,12 +142,6 @@ lost_at fates tables at table e = by_way (lost_found fates table.number tables)
 
 -- ---- a table that stays
 
-active_form : (former : Option Former) (frame : State) (number : ℕ) (name : List ℕ) (schema : Schema) (fates : List (ℕ × Fate)) → frame.mode ≡ Both name schema fates → form_in former frame number ≡ over_pair Paired (shared_in frame.schema schema fates number)
-active_form former frame number name schema fates m = rw m refl
-
-active_shared : (frame : State) (number : ℕ) (name : List ℕ) (schema : Schema) (fates : List (ℕ × Fate)) → frame.mode ≡ Both name schema fates → shared frame number ≡ shared_in frame.schema schema fates number
-active_shared frame number name schema fates m = ap (λ mode. shared_of (lens_between mode number) (option_and_then (λ schema. table_numbered schema number) (newer_schema mode)) (table_numbered frame.schema number)) m
-
 none_missing : (frame : State) (table : StoredTable) (both : Shared) → shared frame table.number ≡ Some both → not_filled_in frame table ≡ None → missing_keys (rows_meant table) ≡ []
 none_missing frame table both e h = no_least (missing_keys (rows_meant table)) (by_least (least (missing_keys (rows_meant table))) (sym (ap (option_and_then {U = Refusal} (λ (both : Shared). option_map (λ key. NotFilled (name_of both.new) key) (least (missing_keys (rows_meant table))))) e) ∙ h))
   where
@@ -211,48 +155,34 @@ none_each frame (table ∷ tables) h = let parts = either_none (not_filled_in fr
 
 -- What holds of it.
 record Stays (frame : State) (all : List StoredTable) (schema : Schema) (fates : List (ℕ × Fate)) (table : StoredTable) : Type 0 where
-  both : Shared
-  is : shared_in frame.schema schema fates table.number ≡ Some both
-  is_pair : IsPair (pair_over both)
-  lens : lens_among fates table.number ≡ Some both.lens
-  form : table.form ≡ Paired (pair_over both)
-  unmarked : AllByRecursion (λ row. is_marked (pair_over both) row.1 ≡ false) table.rows
-  paired : AllByRecursion (λ row. IsPairedRow (pair_over both) row.1) table.rows
-  known : is_some (table_numbered schema table.number) ≡ true
+  have : BothHave frame schema fates table
+  unmarked : AllByRecursion (λ row. is_marked (pair_over have.both) row.1 ≡ false) table.rows
+  paired : AllByRecursion (λ row. IsPairedRow (pair_over have.both) row.1) table.rows
   lost : found (filter_map (lost_by fates) all) table.number ≡ amount (lens_among fates table.number)
 
-stays_at : (frame : State) (former : Option Former) (all : List StoredTable) (name : List ℕ) (schema : Schema) (fates : List (ℕ × Fate)) → frame.mode ≡ Both name schema fates → IsState (meant frame all) → NewerStands (meant frame all) name schema fates
-    → (at : ℕ) (table : StoredTable) → slice_get all at ≡ Some table → IsStoredTable (record { frame = frame; former = former; tables = all }) table → not_filled_in frame table ≡ None → Stays frame all schema fates table
-stays_at frame former all name schema fates m stands newer at table e h none =
-    let number = table.number in
-    let among = subst (λ numbers. list_any (nat_eq number) numbers ≡ true) (sym (numbers_of-meant frame all)) (own_number all at table e) in
-    let lens = newer.kept number among in
-    let there = joined_both frame.schema schema fates number lens.0 lens.1 (newer.joined number lens.0 lens.1) in
-    let both = there.0 in
-    let parts = shared_parts (lens_among fates number) (table_numbered schema number) (table_numbered frame.schema number) both there.1 in
-    let form : table.form ≡ Paired (pair_over both) = h.form ∙ active_form former frame number name schema fates m ∙ ap (over_pair Paired) there.1 in
-    let missing = none_missing frame table both (active_shared frame number name schema fates m ∙ there.1) none in
+stays_at : (stored : Stored) (name : List ℕ) (schema : Schema) (fates : List (ℕ × Fate)) → stored.frame.mode ≡ Both name schema fates
+    → IsState (meaning stored) → (at : ℕ) (table : StoredTable) → slice_get stored.tables at ≡ Some table → IsStoredTable stored table
+    → not_filled_in stored.frame table ≡ None → Stays stored.frame stored.tables schema fates table
+stays_at stored name schema fates m stands at table e h none =
+    let have = both_have stored name schema fates m stands table (own_number stored.tables at table e) h in
+    let pair = pair_over have.both in
+    let missing = none_missing stored.frame table have.both have.shares none in
     record {
-      both = both;
-      is = there.1;
-      is_pair = joined_pair frame.schema schema fates number both stands.version.schema_stands newer.version.schema_stands there.1 (newer.joined number both.lens parts.2);
-      lens = parts.2;
-      form = form;
-      unmarked = unmarked (pair_over both) table.rows (subst (λ form. missing_keys (map (kept form) table.rows) ≡ []) form missing);
-      paired = subst (λ form. AllByRecursion (λ row. IsStoredRow form row.1) table.rows) form h.rows;
-      known = ap is_some parts.1;
-      lost = lost_at fates all at table e;
+      have = have;
+      unmarked = unmarked pair table.rows (subst (λ form. missing_keys (map (kept form) table.rows) ≡ []) have.form missing);
+      paired = subst (λ form. AllByRecursion (λ row. IsStoredRow form row.1) table.rows) have.form h.rows;
+      lost = lost_at fates stored.tables at table e;
     }
 
 -- ---- what the step leaves of the tables
 
 table_stays : (frame : State) (all : List StoredTable) (schema : Schema) (fates : List (ℕ × Fate)) (table : StoredTable) → Stays frame all schema fates table → table_meant (left_table table) ≡ (table.number, map (completed_row (lens_among fates table.number)) (rows_meant table))
 table_stays frame all schema fates table h =
-    let pair = pair_over h.both in
-    ap (λ form. (table.number, map (kept (left_form form)) table.rows)) h.form
+    let pair = pair_over h.have.both in
+    ap (λ form. (table.number, map (kept (left_form form)) table.rows)) h.have.form
     ∙ ap (λ (rows : List Kept). (table.number, rows)) (rows_stay pair table.rows h.unmarked)
-    ∙ ap (λ lens. (table.number, map (completed_row lens) (map (kept (Paired pair)) table.rows))) (sym h.lens)
-    ∙ ap (λ form. (table.number, map (completed_row (lens_among fates table.number)) (map (kept form) table.rows))) (sym h.form)
+    ∙ ap (λ lens. (table.number, map (completed_row lens) (map (kept (Paired pair)) table.rows))) (sym h.have.lens)
+    ∙ ap (λ form. (table.number, map (completed_row (lens_among fates table.number)) (map (kept form) table.rows))) (sym h.have.form)
 
 tables_stay : (frame : State) (all : List StoredTable) (schema : Schema) (fates : List (ℕ × Fate)) (tables : List StoredTable) → AllByRecursion (Stays frame all schema fates) tables → map table_meant (map left_table tables) ≡ completed_tables schema fates (map table_meant tables)
 tables_stay frame all schema fates [] h = refl
@@ -261,7 +191,7 @@ tables_stay frame all schema fates (table ∷ tables) h =
     let rest = filter (λ (table : ℕ × List Kept). is_some (table_numbered schema table.0)) (map table_meant tables) in
     ap (λ (t : ℕ × List Kept). t ∷ map table_meant (map left_table tables)) (table_stays frame all schema fates table h.0)
     ∙ ap (λ (ts : List (ℕ × List Kept)). done (table_meant table) ∷ ts) (tables_stay frame all schema fates tables h.1)
-    ∙ sym (ap (λ b. map done (cond b (table_meant table ∷ rest) rest)) h.0.known)
+    ∙ sym (ap (λ b. map done (cond b (table_meant table ∷ rest) rest)) (ap is_some h.0.have.new))
 
 lost_same : (fates : List (ℕ × Fate)) (tables : List StoredTable) → filter_map (lost_in_table fates) (map table_meant (map left_table tables)) ≡ filter_map (lost_by fates) tables
 lost_same fates [] = refl
@@ -281,12 +211,12 @@ left_stored : UnfilledRowsAreBegun → (frame : State) (all : List StoredTable) 
 left_stored law frame all name schema fates new [] h = tt
 left_stored law frame all name schema fates new (table ∷ tables) h =
     let stays = h.0 in
-    let pair = pair_over stays.both in
-    let filled = rows_filled law pair table.rows stays.is_pair stays.unmarked stays.paired in (
+    let have = stays.have in
+    let filled = rows_filled law (pair_over have.both) table.rows have.is_pair stays.unmarked stays.paired in (
       record {
-        form = ap left_form stays.form ∙ sym (ap (over_pair Left) stays.is);
-        lost = stays.lost ∙ ap amount stays.lens ∙ sym (ap (λ form. lost_columns_by (left_form form)) stays.form);
-        rows = subst (λ form. AllByRecursion (λ row. IsStoredRow (left_form form) row.1) table.rows) (sym stays.form) filled;
+        form = ap left_form have.form ∙ sym (ap (over_pair Left) have.is);
+        lost = stays.lost ∙ ap amount have.lens ∙ sym (ap (λ form. lost_columns_by (left_form form)) have.form);
+        rows = subst (λ form. AllByRecursion (λ row. IsStoredRow (left_form form) row.1) table.rows) (sym have.form) filled;
       },
       left_stored law frame all name schema fates new tables h.1,
     )
@@ -302,8 +232,9 @@ is_finished law frame former tables name schema fates m stored may =
     let s = meant frame tables in
     let newer : NewerStands s name schema fates = subst (ModeStands s) m stored.stands.mode in
     let none = none_each frame tables (either_none (first_some (not_filled_in frame) tables) (option_map not_valid (first_some (invalid_in frame) tables)) may).0 in
-    let stay = each_place (Stays frame tables schema fates) tables (λ at table e. stays_at frame former tables name schema fates m stored.stands newer at table e
-    (all_at (IsStoredTable (record { frame = frame; former = former; tables = tables })) tables at table stored.tables e) (all_at (λ table. not_filled_in frame table ≡ None) tables at table none e)) in
+    let parts : Stored = record { frame = frame; former = former; tables = tables } in
+    let stay = each_place (Stays frame tables schema fates) tables (λ at table e. stays_at parts name schema fates m stored.stands at table e
+    (all_at (IsStoredTable parts) tables at table stored.tables e) (all_at (λ table. not_filled_in frame table ≡ None) tables at table none e)) in
     let whole : List (ℕ × List Kept) → List (ℕ × ℕ) → State = λ ts lost. record { version = name; schema = schema; mode = Calm; left = 2; kind = kind.Complete; next_table = frame.next_table; tables = ts; lost_columns = lost } in
     record {
       means = ap (λ mode. meant (left_by frame (lost_columns mode tables) mode) (map left_table tables)) m
@@ -342,14 +273,6 @@ finish_refused frame tables refusal stands k a h =
     let s = meant frame tables in
     let active = is_active frame.mode a in
     complete_is s active.name active.schema active.fates k active.is ∙ ap (λ may. without may (stepped 1 (completed s active.name active.schema active.fates))) (may_same frame tables stands ∙ h)
-
--- A list that was written through a slice of the whole of it.
-pub written_back : {X : Type 0} (old new : List X) (len : ℕ) → len ≡ length new → length new ≡ length old → take len (new ++ drop (length new) old) ≡ new
-written_back [] [] len a b = rw a refl
-written_back [] (y ∷ new) len a b = absurd (omega (arith, b))
-written_back (x ∷ old) [] len a b = absurd (omega (arith, b))
-written_back (x ∷ old) (y ∷ new) zero a b = absurd (omega (arith, a))
-written_back (x ∷ old) (y ∷ new) (suc len) a b = ap (λ rest. y ∷ rest) (written_back old new len (omega (arith, a)) (omega (arith, b)))
 
 -- What a call of the step leaves.
 pub record Finishes (frame : State) (tables : List StoredTable) (new : Stored) : Type 0 where

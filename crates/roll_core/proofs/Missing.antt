@@ -1,23 +1,9 @@
 -- The first rows that are still to be filled, and the first table that has any.
-use Rattle.std.proofs.Common.{arith, ◌≡◌, ◌∙◌, ℕ, zero, suc, ℤ, List, [], ◌∷◌, Bool, true, false, ◌||◌, if◌then◌else◌, length, map, nat_lt, take, filter, ap, refl, sym, subst, int_cmp, int_eq, Ordering, Less, Equal, Greater}
-use Rattle.std.specs.List.{AllByRecursion as Each, list_any}
-use Rattle.std.specs.Ordering.{is_eq, ordering_reverse}
-use Rattle.std.proofs.lemmas.Bool.Decides.{nat_tests}
-use Rattle.std.proofs.lemmas.Cmp.{int_cmp_total, tied_itself}
-use Rattle.row_rules.specs.declared.kinds.Kept.{Kept}
-use Rattle.row_rules.specs.Rows.{missing_keys, rows_at}
-use Rattle.row_rules.specs.Site.{is_missing}
-use Rattle.machine.specs.Standing.{Ascends}
+use Rattle.roll_core.proofs.Words.{arith, ◌≡◌, ◌∙◌, ℕ, zero, suc, ℤ, List, [], ◌∷◌, Bool, true, false, ◌||◌, if◌then◌else◌, length, map, nat_lt, take, filter, ap, refl, sym, subst, int_cmp, int_eq, Ordering, Less, Equal, Greater, Each, list_any, is_eq, ordering_reverse, nat_tests, int_cmp_total, tied_itself}
+use Rattle.roll_core.proofs.Words.{Kept, rows_at, is_missing, Ascends}
+use Rattle.row_rules.specs.Rows.{missing_keys}
 
 -- ---- the rows of the first keys
-
-eq_turns : (x y : ℤ) → int_eq x y ≡ int_eq y x
-eq_turns x y = ap is_eq (int_cmp_total.antisymm x y) ∙ turned (int_cmp y x)
-  where
-    turned : (o : Ordering) → is_eq (ordering_reverse o) ≡ is_eq o
-    turned Less = refl
-    turned Equal = refl
-    turned Greater = refl
 
 -- The key is less than each of these rows'.
 abbrev Below : ℤ → List Kept → Type 0
@@ -46,7 +32,7 @@ key_absent p key n (row ∷ rows) b = by_test (p row) n (key_absent p key n rows
 -- rows behind a key aren't of this key
 skipped : (q : Kept → Bool) (key : ℤ) (rows : List Kept) → Below key rows → filter (λ row. int_eq row.key key || q row) rows ≡ filter q rows
 skipped q key [] b = refl
-skipped q key (row ∷ rows) b = by_test (int_eq row.key key) (q row) (eq_turns row.key key ∙ ap is_eq b.0) (skipped q key rows b.1)
+skipped q key (row ∷ rows) b = by_test (int_eq row.key key) (q row) (int_eq_equiv.symm row.key key ∙ ap is_eq b.0) (skipped q key rows b.1)
   where
     by_test : (a c : Bool) → a ≡ false → filter (λ row. int_eq row.key key || q row) rows ≡ filter q rows → (if a || c then row ∷ filter (λ row. int_eq row.key key || q row) rows else filter (λ row. int_eq row.key key || q row) rows) ≡ (if c then row ∷ filter q rows else filter q rows)
     by_test true c e there = cc
@@ -72,35 +58,27 @@ first_rows p (suc n) (row ∷ rows) h =
     keys : List ℤ
     keys = map (λ row. row.key) (filter p rows)
 
-    by_key : (here : Bool) (c : Bool) (left : List Kept) → here ≡ true → (if here || c then row ∷ left else left) ≡ row ∷ left
-    by_key true c left e = refl
-    by_key false c left e = cc
-
-    by_absent : (c : Bool) (left : List Kept) → c ≡ false → (if c then row ∷ left else left) ≡ left
-    by_absent true left e = cc
-    by_absent false left e = refl
+    left : List Kept
+    left = filter (λ other. int_eq other.key row.key || list_any (int_eq other.key) (take n keys)) rows
 
     by_test : (b : Bool) → list_any (int_eq row.key) (take (suc n) keys) ≡ false → rows_at (take n keys) rows ≡ take n (filter p rows) → rows_at (take (suc n) keys) rows ≡ take (suc n) (filter p rows) → Below row.key rows
         → rows_at (take (suc n) (map (λ row. row.key) (if b then row ∷ filter p rows else filter p rows))) (row ∷ rows) ≡ take (suc n) (if b then row ∷ filter p rows else filter p rows)
     by_test true absent less same below =
-        by_key (int_eq row.key row.key) (list_any (int_eq row.key) (take n keys)) (filter (λ other. int_eq other.key row.key || list_any (int_eq other.key) (take n keys)) rows) (ap is_eq (tied_itself int_cmp_total row.key))
+        ap (λ b. if b || list_any (int_eq row.key) (take n keys) then row ∷ left else left) (int_eq_equiv.refl row.key)
         ∙ ap (λ left. row ∷ left) (skipped (λ other. list_any (int_eq other.key) (take n keys)) row.key rows below ∙ less)
-    by_test false absent less same below = by_absent (list_any (int_eq row.key) (take (suc n) keys)) (rows_at (take (suc n) keys) rows) absent ∙ same
+    by_test false absent less same below = ap (λ b. if b then row ∷ rows_at (take (suc n) keys) rows else rows_at (take (suc n) keys) rows) absent ∙ same
 
 pub first_missing : (n : ℕ) (rows : List Kept) → Ascends rows → rows_at (take n (missing_keys rows)) rows ≡ take n (filter is_missing rows)
 first_missing n rows h = first_rows is_missing n rows h
 
 -- ---- whether there is any
 
-some_more : (n : ℕ) → nat_lt 0 (suc n) ≡ true
-some_more n = grind (arith, nat_tests)
-
 pub any_left : (rows : List Kept) → nat_lt 0 (length (missing_keys rows)) ≡ list_any is_missing rows
 any_left [] = refl
 any_left (row ∷ rows) = by_test (is_missing row) (any_left rows)
   where
     by_test : (b : Bool) → nat_lt 0 (length (missing_keys rows)) ≡ list_any is_missing rows → nat_lt 0 (length (map {A = Kept} (λ row. row.key) (if b then row ∷ filter is_missing rows else filter is_missing rows))) ≡ (b || list_any is_missing rows)
-    by_test true there = some_more (length (map {A = Kept} (λ row. row.key) (filter is_missing rows)))
+    by_test true there = grind (arith, nat_tests)
     by_test false there = there
 
 -- ---- what holds of rows holds of some of them

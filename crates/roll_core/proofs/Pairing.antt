@@ -1,17 +1,7 @@
 -- What both versions have of a table, and that it is a pair.
-use Rattle.std.proofs.Common.{◌≡◌, ◌∙◌, ℕ, List, Option, Some, None, true, ap, refl, sym, subst, option_map, option_and_then}
-use Rattle.sql_base.specs.Laws.{some_same}
-use Rattle.sql_base.specs.declared.shapes.Schema.{Schema}
-use Rattle.sql_base.specs.declared.shapes.Shape.{Shape}
-use Rattle.mig_lens.specs.declared.columns.Lens.{Lens}
-use Rattle.mig_lens.specs.declared.plans.Fate.{Fate}
-use Rattle.mig_lens.specs.Laws.{IsSchema, Joins}
-use Rattle.mig_lens.specs.Lens.{IsWellFormed, fits}
-use Rattle.mig_lens.specs.Plan.{Table, table_numbered}
-use Rattle.row_rules.specs.Site.{shape_of}
-use Rattle.machine.specs.State.{Shared, lens_among}
-use Rattle.trigger_pair.specs.Laws.{IsPair}
-use Rattle.roll_core.specs.Store.{pair_over}
+use Rattle.roll_core.proofs.Words.{◌≡◌, ◌∙◌, ℕ, List, Option, Some, None, true, ap, refl, sym, subst, option_map, option_and_then}
+use Rattle.roll_core.proofs.Words.{some_same, Schema, Shape, Lens, Fate, IsSchema, Joins, IsWellFormed, fits, Table, table_numbered, shape_of, Shared, lens_among, IsPair}
+use Rattle.roll_core.proofs.Words.{pair_over}
 
 -- What both have, where they have it and a lens.
 abbrev pub shared_of : Option Lens → Option Table → Option Table → Option Shared
@@ -67,3 +57,9 @@ joined_pair old new fates number both is_old is_new h joined =
       lens = subst (λ shape. IsWellFormed both.lens shape (shape_of both.new)) older (subst (λ shape. IsWellFormed both.lens joined.before shape) newer joined.well_formed);
       layout = refl;
     }
+
+pub active_form : (former : Option Former) (frame : State) (number : ℕ) (name : List ℕ) (schema : Schema) (fates : List (ℕ × Fate)) → frame.mode ≡ Both name schema fates → form_in former frame number ≡ over_pair Paired (shared_in frame.schema schema fates number)
+active_form former frame number name schema fates m = rw m refl
+
+pub active_shared : (frame : State) (number : ℕ) (name : List ℕ) (schema : Schema) (fates : List (ℕ × Fate)) → frame.mode ≡ Both name schema fates → shared frame number ≡ shared_in frame.schema schema fates number
+active_shared frame number name schema fates m = ap (λ mode. shared_of (lens_between mode number) (option_and_then (λ schema. table_numbered schema number) (newer_schema mode)) (table_numbered frame.schema number)) m

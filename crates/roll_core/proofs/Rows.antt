@@ -1,19 +1,8 @@
 -- Stored rows, and the rows that they mean.
-use Rattle.std.proofs.Common.{Bor, ◌≡◌, ◌∙◌, ℤ, List, [], ◌∷◌, Bool, true, false, ◌||◌, not, Option, Some, None, is_some, int_cmp, int_eq, Ordering, Less, Equal, Greater, ap, refl, sym, length, map, filter, cond}
-use Rattle.std.specs.FinMap as finite
-use Rattle.std.specs.FinMap.{put}
-use Rattle.std.specs.FinMap.Entries.{by_order as picked, where_key}
-use Rattle.std.specs.Cmp.{int_eq_equiv}
-use Rattle.std.specs.List.{AllByRecursion, list_any}
-use Rattle.std.specs.Option.{option_copied}
-use Rattle.std.specs.Ordering.{eq_by_cmp, match_ordering}
-use Rattle.std.proofs.lemmas.List.{length-map}
-use Rattle.sql_base.specs.declared.values.Value.{Value}
-use Rattle.row_rules.specs.declared.kinds.Kept.{Kept}
-use Rattle.row_rules.specs.Changes.{put_row}
-use Rattle.row_store.specs.Stored.{Rows}
-use Rattle.roll_core.specs.declared.forms.Form.{Form}
-use Rattle.roll_core.specs.Store.{StoredRow, kept}
+use Rattle.roll_core.proofs.Words.{Bor, ◌≡◌, ◌∙◌, ℤ, List, [], ◌∷◌, Bool, true, false, ◌||◌, not, Option, Some, None, is_some, int_cmp, int_eq, Ordering, Less, Equal, Greater, ap, refl, sym, length, map, filter, cond, put, picked, where_key, int_eq_equiv, AllByRecursion, list_any, option_copied, eq_by_cmp, match_ordering, length-map}
+use Rattle.roll_core.proofs.Words.{Value, Kept, put_row, Rows}
+use Rattle.roll_core.proofs.Words.{Form, StoredRow, kept}
+use Rattle.roll_core.proofs.Words.finite
 
 -- ---- keys and the number of rows
 

@@ -1,23 +1,14 @@
 -- Rows that a step stores anew stand in the order in which they stood.
-use Rattle.std.proofs.Common.{arith, ◌≡◌, ◌∙◌, ◌<◌, ℕ, zero, suc, ℤ, List, [], ◌∷◌, Bool, true, false, ◌&&◌, Some, None, int_cmp, Ordering, Less, Equal, Greater, ap, refl, sym, subst, length, map, take}
-use Rattle.std.specs.Prelude.{T, slice_get}
-use Rattle.std.specs.Cmp.{int_cmp_total}
-use Rattle.std.specs.FinMap as finite
-use Rattle.std.specs.FinMap.{is_sorted, put}
-use Rattle.std.specs.FinMap.Entries.{below_all, by_order}
-use Rattle.std.specs.Ordering.{is_lt, ordering_reverse}
-use Rattle.sql_base.specs.Laws.{some_same}
-use Rattle.sql_base.specs.declared.values.Value.{Value}
-use Rattle.row_store.specs.Stored.{Rows}
-use Rattle.roll_core.specs.declared.forms.Form.{Form}
-use Rattle.roll_core.specs.Stepping.{stepped_row, stepped_values}
-use Rattle.roll_core.specs.Store.{StoredRow}
+use Rattle.roll_core.proofs.Words.{arith, ◌≡◌, ◌∙◌, ◌<◌, ℕ, zero, suc, ℤ, List, [], ◌∷◌, Bool, true, false, ◌&&◌, Some, None, int_cmp, Ordering, Less, Equal, Greater, ap, refl, sym, subst, length, map, take, T, slice_get, int_cmp_total, is_sorted, put, below_all, by_order, is_lt, ordering_reverse}
+use Rattle.roll_core.proofs.Words.{some_same, Each, Kept, Value, Rows}
+use Rattle.roll_core.proofs.Words.{Form, IsStoredRow, kept, stepped_row, stepped_values, StoredRow}
+use Rattle.roll_core.proofs.Words.finite
 
-split : (a b : Bool) → T (a && b) → T a × T b
+pub split : (a b : Bool) → T (a && b) → T a × T b
 split true b h = (tt, h)
 split false b h = absurd h
 
-is_less : (o : Ordering) → T (is_lt o) → o ≡ Less
+pub is_less : (o : Ordering) → T (is_lt o) → o ≡ Less
 is_less Less h = refl
 is_less Equal h = absurd h
 is_less Greater h = absurd h
@@ -69,3 +60,16 @@ no_length (x ∷ xs) e = absurd (omega (arith, e))
 
 pub none_stored : (rows : Rows) → rows ≡ finite.empty → finite.entries rows ≡ []
 none_stored rows e = ap finite.entries e ∙ no_length (finite.entries {X = List Value} {R = int_cmp} finite.empty) (sym (finite.len-entries finite.empty) ∙ finite.len-empty int_cmp (List Value))
+
+-- ---- what they mean
+
+-- A row that is stored anew means what is wanted, and is stored as its new form wants.
+abbrev pub StepsTo : Form → Form → (StoredRow → Kept) → StoredRow → Type 0
+StepsTo step after wanted row = (kept after (stepped_row step row) ≡ wanted row) × IsStoredRow after (stepped_values step row.1)
+
+pub rows_next : (step after : Form) (wanted : StoredRow → Kept) (rows : List StoredRow) → Each (StepsTo step after wanted) rows
+    → (map (kept after) (map (stepped_row step) rows) ≡ map wanted rows) × Each (λ row. IsStoredRow after row.1) (map (stepped_row step) rows)
+rows_next step after wanted [] h = (refl, tt)
+rows_next step after wanted (row ∷ rows) h =
+    let rest = rows_next step after wanted rows h.1 in
+    (ap (λ (k : Kept). k ∷ map (kept after) (map (stepped_row step) rows)) h.0.0 ∙ ap (λ (ks : List Kept). wanted row ∷ ks) rest.0, (h.0.1, rest.1))

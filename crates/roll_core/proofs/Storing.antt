@@ -1,39 +1,7 @@
 -- The halves of what is stored are the halves that it is made of.
-use Rattle.std.proofs.Common.{◌≡◌, ◌∙◌, ◌<◌, ℕ, zero, suc, ℤ, ◌+◌, List, [], ◌∷◌, ◌++◌, true, false, if◌then◌else◌, Option, Some, None, ap, refl, sym, subst, length, map, take, append_assoc, unwrap_or, arith, not, inl, zero-add}
-use Rattle.std.specs.Prelude.{slice_index_or, filter}
-use Rattle.std.specs.List.{enumerate_from, zip}
-use Rattle.std.proofs.lemmas.List.{take_at}
-use Rattle.std.proofs.lemmas.List.Sums.{sum_by-cons}
-use Rattle.sql_base.specs.declared.values.Value.{Value}
-use Rattle.sql_base.specs.declared.values.Value.TheVariants.{Null}
-use Rattle.sql_base.specs.Fit.{row_fits}
-use Rattle.sql_base.specs.Laws.{and_false, columns_fit, columns_long, row_long}
-use Rattle.sql_base.specs.Weight.{value_weight}
-use Rattle.mig_lens.specs.declared.columns.Cell.{Cell}
-use Rattle.mig_lens.specs.declared.columns.Cell.TheVariants.{Carry, Make, Still}
-use Rattle.mig_lens.specs.Lens.{is_carry}
-use Rattle.row_rules.specs.declared.kinds.Halves.{Halves}
-use Rattle.row_rules.specs.declared.kinds.Kept.{Kept}
-use Rattle.machine.specs.Migrate.{lost_columns_in, lost_value, lost_weight}
-use Rattle.trigger_pair.specs.declared.pairs.Pair.{Pair}
-use Rattle.trigger_pair.specs.Laws.{Agree, IsPair, PairsAreLong, StoredRowsHold}
-use Rattle.trigger_pair.specs.Rows.{IsFilledRow}
-use Rattle.trigger_pair.specs.Stored.{is_marked, mark_value, new_half, new_view, old_view, shadow_values, stored_row}
-use Rattle.phase_steps.specs.Laws.{FilledBefore, LeftRowsAreFilled, LeftRowsKeep, LeftRowsShow, TrimmingKeepsView, TrimmingLeavesTrimmed}
-use Rattle.phase_steps.specs.Rows.{left_row, left_value, trimmed, trimmed_view}
-use Rattle.roll_core.specs.declared.forms.Form.{Form}
-use Rattle.roll_core.specs.declared.forms.Form.TheVariants.{Own, Paired, Left, Trimmed}
-use Rattle.roll_core.specs.Store.{IsStoredRow, kept, lost_of, stored_values}
-
--- The laws of the lower crates.
-pub record StoringHolds : Type 0 where
-  pub long : PairsAreLong
-  pub holds : StoredRowsHold
-  pub shown : LeftRowsShow
-  pub kept : LeftRowsKeep
-  pub filled : LeftRowsAreFilled
-  pub trims : TrimmingKeepsView
-  pub trimmed : TrimmingLeavesTrimmed
+use Rattle.roll_core.proofs.Words.{get_or_append_left, ◌≡◌, ◌∙◌, ◌<◌, ℕ, zero, suc, ℤ, ◌+◌, List, [], ◌∷◌, ◌++◌, true, false, if◌then◌else◌, Option, Some, None, ap, refl, sym, subst, length, map, take, append_assoc, unwrap_or, arith, not, inl, zero-add, slice_index_or, filter, enumerate_from, zip, take_at, sum_by-cons}
+use Rattle.roll_core.proofs.Words.{Value, Null, row_fits, and_false, columns_fit, columns_long, row_long, value_weight, Cell, Carry, Make, Still, is_carry, Halves, Kept, lost_columns_in, lost_value, lost_weight, Pair, Agree, IsPair, PairsAreLong, StoredRowsHold, IsFilledRow, is_marked, mark_value, new_half, new_view, old_view, shadow_values, stored_row, FilledBefore, LeftRowsAreFilled, LeftRowsKeep, LeftRowsShow, TrimmingKeepsView, TrimmingLeavesTrimmed, left_row, left_value, trimmed, trimmed_view}
+use Rattle.roll_core.proofs.Words.{Form, Own, Paired, Left, Trimmed, IsStoredRow, kept, lost_of, stored_values, Below}
 
 -- ---- which rows can be stored in a form
 
@@ -100,25 +68,16 @@ left_weight (cell ∷ cells) values held (old ∷ olds) k l same =
     by_cell (Make up) e = ap value_weight e
     by_cell (Still constant) e = ap value_weight e
 
+one_more : {a b n : ℕ} → Cell → a ≡ 1 + b → b ≡ n → a ≡ suc n
+one_more cell e f = omega (arith, e, f)
+
 -- Where there was nothing it is NULL, which weighs 1.
 new_weight : (cells : List Cell) (values : List Value) (k : ℕ) → lost_weight cells (map (left_value values []) (enumerate_from k cells)) ≡ length (filter (λ cell. not (is_carry cell)) cells)
 new_weight [] values k = refl
 new_weight (Carry from ∷ cells) values k = add_lost (Carry from) (left_value values [] (k, Carry from)) cells (map (left_value values []) (enumerate_from (k + 1) cells)) ∙ zero-add (lost_weight cells (map (left_value values []) (enumerate_from (k + 1) cells))) ∙ new_weight cells values (k + 1)
-new_weight (Make up ∷ cells) values k =
-    let more = map (left_value values []) (enumerate_from (k + 1) cells) in
-    let first : lost_weight (Make up ∷ cells) (map (left_value values []) (enumerate_from k (Make up ∷ cells))) ≡ 1 + lost_weight cells more = add_lost (Make up) Null cells more in
-    let rest = new_weight cells values (k + 1) in
-    omega (arith, first, rest)
+new_weight (Make up ∷ cells) values k = one_more (Make up) (add_lost (Make up) Null cells (map (left_value values []) (enumerate_from (k + 1) cells))) (new_weight cells values (k + 1))
 new_weight (Still constant ∷ cells) values k =
-    let more = map (left_value values []) (enumerate_from (k + 1) cells) in
-    let first : lost_weight (Still constant ∷ cells) (map (left_value values []) (enumerate_from k (Still constant ∷ cells))) ≡ 1 + lost_weight cells more = add_lost (Still constant) Null cells more in
-    let rest = new_weight cells values (k + 1) in
-    omega (arith, first, rest)
-
-held_at : (old behind : List Value) (i : ℕ) → i < length old → slice_index_or (old ++ behind) i Null ≡ slice_index_or old i Null
-held_at [] behind i few = absurd (omega arith)
-held_at (v ∷ old) behind zero few = refl
-held_at (v ∷ old) behind (suc i) few = held_at old behind i (omega arith)
+    one_more (Still constant) (add_lost (Still constant) Null cells (map (left_value values []) (enumerate_from (k + 1) cells))) (new_weight cells values (k + 1))
 
 -- The lost weight of what is written over what was stored is the weight of that.
 left_lost : PairsAreLong → LeftRowsKeep → (pair : Pair) (values : List Value) (before : Option (List Value)) → IsPair pair → FilledBefore pair before → lost_of (Left pair) (left_row pair.lens values before) ≡ lost_over pair before
@@ -131,7 +90,7 @@ left_lost long keep pair values (Some stored) p was =
     let shown : old_view pair stored ≡ was.old = ap (take (length pair.old.columns)) is ∙ take_at was.old (shadow ++ mark) (length pair.old.columns) old_long in
     let cells_long : length was.old ≡ length pair.lens.old_cols = old_long ∙ sym (long pair p).0 in
     let same : (i : ℕ) → i < length pair.lens.old_cols → slice_index_or stored (0 + i) Null ≡ slice_index_or was.old i Null = λ i few.
-    ap (λ n. slice_index_or stored n Null) (zero-add i) ∙ ap (λ row. slice_index_or row i Null) is ∙ held_at was.old (shadow ++ mark) i (omega arith) in
+    ap (λ n. slice_index_or stored n Null) (zero-add i) ∙ ap (λ row. slice_index_or row i Null) is ∙ get_or_append_left was.old (shadow ++ mark) Null i (omega arith) in
     ap (lost_weight pair.lens.old_cols) (keep pair values (Some stored) p) ∙ left_weight pair.lens.old_cols values stored was.old 0 cells_long same ∙ ap (lost_weight pair.lens.old_cols) (sym shown)
 
 -- ---- the halves of what is stored
@@ -151,7 +110,7 @@ pub record StoresRow (form : Form) (before : Option (List Value)) (row : Kept) :
 unmarked_half : (pair : Pair) (stored new : List Value) → is_marked pair stored ≡ false → new_view pair stored ≡ new → new_half pair stored ≡ Some new
 unmarked_half pair stored new m v = ap (λ b. if b then None else Some (new_view pair stored)) m ∙ ap Some v
 
-pub stores_row : StoringHolds → (form : Form) (before : Option (List Value)) (row : Kept) → FormStands form → Storable form before row → StoresRow form before row
+pub stores_row : Below → (form : Form) (before : Option (List Value)) (row : Kept) → FormStands form → Storable form before row → StoresRow form before row
 stores_row law Own before row p s =
     let h = s.0.halves in
     let values : unwrap_or row.halves.old [] ≡ s.0.values = ap (λ (halves : Halves). unwrap_or halves.old []) h in

@@ -1,24 +1,9 @@
 -- The first table with a row that is still to be filled, as it is found among the stored tables.
-use Rattle.std.proofs.Common.{arith, ◌≡◌, ◌∙◌, ◌<◌, ℕ, zero, suc, List, [], ◌∷◌, Bool, true, false, if◌then◌else◌, Option, Some, None, find, drop, length, map, nat_lt, filter, ap, refl, sym, option_map, option_and_then}
-use Rattle.std.specs.Prelude.{slice_get, slice_index_or}
-use Rattle.std.specs.List.{AllByRecursion as Each}
-use Rattle.std.specs.Option.{option_map_or, option_or}
-use Rattle.std.proofs.lemmas.List.{length-map}
-use Rattle.sql_base.specs.Laws.{either_none, some_same}
-use Rattle.row_rules.specs.Rows.{missing_keys as keys_missing}
-use Rattle.machine.specs.declared.states.Mode.TheVariants.{Calm}
-use Rattle.machine.specs.declared.states.State.{State}
-use Rattle.machine.specs.Migrate.{bad_batch, first_of, has_missing, inactive, may_not_fill, steps_left, unfilled_tables}
-use Rattle.machine.specs.State.{Shared, missing_keys, rows_of, shared}
-use Rattle.roll_core.specs.declared.forms.Form.{Form}
-use Rattle.roll_core.specs.declared.forms.Form.TheVariants.{Own, Paired, Left, Trimmed}
-use Rattle.roll_core.specs.Batch.{FirstUnfilled, is_unfilled, number_at}
-use Rattle.roll_core.specs.declared.store.StoredTable.{StoredTable as OwnTable}
-use Rattle.roll_core.specs.Running.{FormSuits, Runs, meant}
-use Rattle.roll_core.specs.Seen.{seen}
-use Rattle.roll_core.specs.Store.{StoredTable, rows_meant, table_meant}
+use Rattle.roll_core.proofs.Words.{slice_get-get_or, arith, ◌≡◌, ◌∙◌, ◌<◌, ℕ, zero, suc, List, [], ◌∷◌, Bool, true, false, if◌then◌else◌, Option, Some, None, find, drop, length, map, nat_lt, filter, ap, refl, sym, option_map, option_and_then, slice_get, slice_index_or, Each, option_map_or, option_or, length-map}
+use Rattle.roll_core.proofs.Words.{either_none, some_same, keys_missing, Calm, State, bad_batch, first_of, has_missing, inactive, may_not_fill, steps_left, unfilled_tables, Shared, missing_keys, rows_of, shared}
+use Rattle.roll_core.proofs.Words.{Form, Own, Paired, Left, Trimmed, FirstUnfilled, is_unfilled, number_at, OwnTable, FormSuits, Runs, meant, seen, StoredTable, rows_meant, table_meant}
 use Rattle.roll_core.proofs.Missing.{any_left}
-use Rattle.roll_core.proofs.Tables.{all_at, got_mapped, is_got, rows_of-read}
+use Rattle.roll_core.proofs.Tables.{all_at, each_place, got_mapped, rows_of-read}
 
 -- A migration is active, where a batch may be filled.
 pub active : (s : State) (n : ℕ) → may_not_fill s n ≡ None → ¬ (s.mode ≡ Calm)
@@ -35,15 +20,11 @@ suits_shared s number (Paired pair) h live = (h.both, h.shares)
 suits_shared s number (Left pair) h live = absurd (live h.calm)
 suits_shared s number (Trimmed pair) h live = absurd (live h.calm)
 
-each_at : {X : Type 0} (P : X → Type 0) (xs : List X) → ((at : ℕ) (x : X) → slice_get xs at ≡ Some x → P x) → Each P xs
-each_at P [] h = tt
-each_at P (x ∷ xs) h = (h zero x refl, each_at P xs (λ at y e. h (suc at) y e))
-
 abbrev Tells : State → StoredTable → Type 0
 Tells s table = has_missing s table.number ≡ is_unfilled table
 
 tells : (frame : State) (tables : List StoredTable) → Runs frame tables → ¬ (frame.mode ≡ Calm) → Each (Tells (meant frame tables)) tables
-tells frame tables runs live = each_at (Tells s) tables one
+tells frame tables runs live = each_place (Tells s) tables one
   where
     s : State
     s = meant frame tables
@@ -92,6 +73,6 @@ drop_found (first ∷ tables) (suc at) table e u = drop_found tables at table e 
 
 pub found_here : (tables : List OwnTable) (at : ℕ) (d table : OwnTable) → at < length tables → table ≡ slice_index_or tables at d → find is_unfilled (map seen (drop at tables)) ≡ find is_unfilled (map seen tables) → is_unfilled (seen table) ≡ true → FirstUnfilled (map seen tables) (Some at)
 found_here tables at d table h e left u =
-    let got : slice_get tables at ≡ Some table = is_got tables at d h ∙ ap Some (sym e) in
+    let got : slice_get tables at ≡ Some table = slice_get-get_or tables at d h ∙ ap Some (sym e) in
     let long = length-map tables seen in
     (omega (arith, h, long), sym left ∙ drop_found tables at table got u ∙ sym (got_mapped seen tables at table got))

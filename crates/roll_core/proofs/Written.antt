@@ -1,29 +1,13 @@
 -- A statement that writes: its rows are stored as they are made, or it is refused as it is refused.
-use Rattle.std.proofs.Common.{◌≡◌, ◌∙◌, List, [], ◌∷◌, false, Option, Some, None, Ok, is_some, map, ap, refl, sym, subst}
-use Rattle.std.specs.FinMap as finite
-use Rattle.std.specs.List.{AllByRecursion as Each}
-use Rattle.sql_base.specs.Outcome.{every}
-use Rattle.sql_base.specs.declared.values.Value.{Value}
-use Rattle.row_rules.specs.declared.kinds.Change.{Change}
-use Rattle.row_rules.specs.declared.kinds.Change.TheVariants.{Put, Remove}
-use Rattle.row_rules.specs.declared.kinds.Job.{Job}
-use Rattle.row_rules.specs.declared.kinds.Job.TheVariants as job
-use Rattle.row_rules.specs.declared.kinds.Kept.{Kept}
-use Rattle.row_rules.specs.Accept.{has_key, key_cause}
-use Rattle.row_rules.specs.Changes.{changes, new_keys_cause, new_row, rows_put}
-use Rattle.row_rules.specs.Site.{Site, number_of, shape_of}
-use Rattle.machine.specs.declared.states.State.{State}
-use Rattle.machine.specs.Sites.{JobStands, OfPut, TableStands}
-use Rattle.machine.specs.Standing.{IsState}
-use Rattle.machine.specs.State.{Found, lost_columns_of, rows_of, site_of}
-use Rattle.row_store.specs.Stored.{Rows}
-use Rattle.roll_core.specs.declared.forms.Form.{Form}
-use Rattle.roll_core.specs.Running.{FormSuits, IsStatement}
-use Rattle.roll_core.specs.Store.{IsStoredRow, kept, lost_columns_by}
+use Rattle.roll_core.proofs.Words.{◌≡◌, ◌∙◌, List, [], ◌∷◌, false, Option, Some, None, Ok, is_some, map, ap, refl, sym, subst, Each}
+use Rattle.roll_core.proofs.Words.{every, Value, Change, Put, Remove, Job, Kept, has_key, key_cause, changes, new_keys_cause, new_row, rows_put, Site, number_of, shape_of, State, JobStands, OfPut, TableStands, IsState, Found, lost_columns_of, rows_of, site_of, Rows}
+use Rattle.roll_core.proofs.Words.{Form, FormSuits, IsStatement, IsStoredRow, kept, lost_columns_by, Below}
+use Rattle.roll_core.proofs.Words.finite
+use Rattle.roll_core.proofs.Words.job
 use Rattle.roll_core.proofs.Changed.{Stores}
 use Rattle.roll_core.proofs.Counted.{fresh, rows_are, rows_put-all, Fresh}
 use Rattle.roll_core.proofs.Fitting.{Weighs, WeighsOver, new_weighs, older_weigh}
-use Rattle.roll_core.proofs.Jobs.{WritingHolds, job_stores, stored_agree, stored_sites}
+use Rattle.roll_core.proofs.Jobs.{job_stores, stored_agree, stored_sites}
 use Rattle.roll_core.proofs.Made.{Placed}
 use Rattle.roll_core.proofs.Rows.{has_key-stored}
 
@@ -51,19 +35,19 @@ new_fresh site rows older all e none =
     (made.0, made.2, fresh site.here older made.0 (ap (key_cause site.here older) (sym puts) ∙ none))
 
 -- What a statement's job changes is stored so that it is meant.
-pub statement_stores : WritingHolds → (s : State) (found : Found) → IsState s → TableStands s found → (form : Form) (rows : Rows) → FormSuits s (number_of found.table) form → lost_columns_of s (number_of found.table) ≡ lost_columns_by form → Each (λ row. IsStoredRow form row.1) (finite.entries rows)
+pub statement_stores : Below → (s : State) (found : Found) → IsState s → TableStands s found → (form : Form) (rows : Rows) → FormSuits s (number_of found.table) form → lost_columns_of s (number_of found.table) ≡ lost_columns_by form → Each (λ row. IsStoredRow form row.1) (finite.entries rows)
     → rows_of s (number_of found.table) ≡ map (kept form) (finite.entries rows) → (what : Job) → IsStatement what → JobStands (shape_of found.table) what → (all : List Change)
     → changes (site_of s found) what (map (kept form) (finite.entries rows)) ≡ Ok all → new_keys_cause (site_of s found) what (map (kept form) (finite.entries rows)) all ≡ None → Each (Stores form rows) all
 statement_stores law s found is stands form rows suits lost stored same (job.Put values) w j all e none =
     let site = site_of s found in
     let older = map (kept form) (finite.entries rows) in
     let f = new_fresh site values older all e none in
-    job_stores law s found is stands form rows suits (job.Put values) tt j older (stored_sites law.rows law.on_site s found is stands older same) (stored_agree law.storing.long s (number_of found.table) form suits (finite.entries rows)) (λ key lost. WeighsOver form None lost) (λ key. new_weighs form site.lost lost) all e
+    job_stores law s found is stands form rows suits (job.Put values) tt j older (stored_sites law.rows law.on_site s found is stands older same) (stored_agree law.long s (number_of found.table) form suits (finite.entries rows)) (λ key lost. WeighsOver form None lost) (λ key. new_weighs form site.lost lost) all e
     (λ placed. subst (Each (OfPut (λ row. Weighs form rows row.key row.lost))) f.1 (fresh_weigh form rows site f.0 f.2.apart (subst (Each (OfPut (Placed (λ key lost. WeighsOver form None lost) site))) (sym f.1) placed)))
 statement_stores law s found is stands form rows suits lost stored same (job.Alter sets condition) w j all e none =
     let older = map (kept form) (finite.entries rows) in
-    job_stores law s found is stands form rows suits (job.Alter sets condition) tt j older (stored_sites law.rows law.on_site s found is stands older same) (stored_agree law.storing.long s (number_of found.table) form suits (finite.entries rows)) (Weighs form rows) (older_weigh form rows stored) all e (placed_weigh form rows (site_of s found) all)
+    job_stores law s found is stands form rows suits (job.Alter sets condition) tt j older (stored_sites law.rows law.on_site s found is stands older same) (stored_agree law.long s (number_of found.table) form suits (finite.entries rows)) (Weighs form rows) (older_weigh form rows stored) all e (placed_weigh form rows (site_of s found) all)
 statement_stores law s found is stands form rows suits lost stored same (job.Remove condition) w j all e none =
     let older = map (kept form) (finite.entries rows) in
-    job_stores law s found is stands form rows suits (job.Remove condition) tt j older (stored_sites law.rows law.on_site s found is stands older same) (stored_agree law.storing.long s (number_of found.table) form suits (finite.entries rows)) (Weighs form rows) tt all e (placed_weigh form rows (site_of s found) all)
+    job_stores law s found is stands form rows suits (job.Remove condition) tt j older (stored_sites law.rows law.on_site s found is stands older same) (stored_agree law.long s (number_of found.table) form suits (finite.entries rows)) (Weighs form rows) tt all e (placed_weigh form rows (site_of s found) all)
 statement_stores law s found is stands form rows suits lost stored same job.Fill w j all e none = absurd w

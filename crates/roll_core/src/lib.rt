@@ -11,6 +11,7 @@ mod commands;
 mod complete;
 mod engine;
 mod forms;
+mod laws;
 mod reach;
 mod start;
 mod statement;

@@ -10,6 +10,7 @@ ghost use Rattle.roll_core.specs.Running as spec;
 ghost use Rattle.roll_core.specs.Seen.{seen};
 
 use crate::reach::shown_reached;
+use crate::laws::laws_below;
 use crate::store::StoredTable;
 use crate::writing::written;
 use machine::parts::{BegunRef, begun, error_reply};
@@ -45,8 +46,7 @@ fn shown(
     requires there { spec.IsSite frame.now (sites.site_of site) }
     ensures { spec.Comes frame.now (map seen tables.now) (statement.shown (spec.meant frame.now (map seen tables.now)) (sites.site_of site.entry) items.now condition.now) result (map seen tables.now) }
 {
-    machine::laws::sites_stand();
-    row_rules::reach_laws::standing_rows_show_their_keys();
+    laws_below();
     let at = place_of(tables, site.here.1);
     match shown_reached(alloc, &tables[at], site, items, condition) {
         Ok(rows) => Ok(Reply::Select(rows)),
@@ -68,7 +68,7 @@ pub fn answer(
     ensures forms { spec.SameForms (map seen tables.old) (map seen tables.new) }
     ensures stored { AllByRecursion spec.RowsStored (map seen tables.new) }
 {
-    machine::laws::sites_stand();
+    laws_below();
     match begun(alloc, frame, path, stmt)? {
         BegunRef::Writes(site, job) => written(alloc, frame, tables, site, &job),
         BegunRef::Shows(site, items, condition) => {

@@ -14,6 +14,7 @@ ghost use Rattle.roll_core.specs.Store.{rows_meant};
 use crate::changing::put_changes;
 use crate::reach::changes_reached;
 use crate::statement::place_of;
+use crate::laws::laws_below;
 use crate::store::StoredTable;
 use machine::parts::{MAX_ROWS, error_reply, row_reply, too_many_rows, written_reply};
 use machine::{Reply, State};
@@ -124,15 +125,7 @@ pub fn written(
     ensures forms { spec.SameForms (map seen tables.old) (map seen tables.new) }
     ensures stored { AllByRecursion spec.RowsStored (map seen tables.new) }
 {
-    machine::laws::sites_stand();
-    machine::laws::carried_columns_agree();
-    trigger_pair::laws::pairs_are_long();
-    trigger_pair::laws::stored_rows_hold();
-    phase_steps::laws::left_rows_show_what_was_written();
-    phase_steps::laws::completing_changes_no_view();
-    phase_steps::laws::rows_are_stored_by_the_step();
-    row_store::laws::changes_keep_order();
-    row_rules::reach_laws::standing_rows_show_their_keys();
+    laws_below();
     let at = place_of(tables, site.here.1);
     let count = row_count(tables);
     let made = accepted_changes(alloc, &tables[at], count, site, job)?;

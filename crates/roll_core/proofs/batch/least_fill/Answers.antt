@@ -1,10 +1,6 @@
-use Rattle.std.proofs.Common.{◌≡◌, ◌∙◌, None, ap, map, sym, subst}
-use Rattle.row_rules.specs.Outcome.{guarded}
-use Rattle.machine.specs.Done.{CommandOutcome, as_outcome}
-use Rattle.machine.specs.Migrate.{first_of, least_batch, least_fill, may_not_fill, unfilled_tables}
-use Rattle.roll_core.specs.Batch.{batch_at}
-use Rattle.roll_core.specs.Running.{Comes, meant}
-use Rattle.roll_core.specs.Seen.{seen}
+use Rattle.roll_core.proofs.Words.{◌≡◌, ◌∙◌, None, ap, map, sym, subst}
+use Rattle.roll_core.proofs.Words.{guarded, CommandOutcome, as_outcome, first_of, least_batch, least_fill, may_not_fill, unfilled_tables}
+use Rattle.roll_core.proofs.Words.{batch_at, Comes, meant, seen}
 use Rattle.roll_core.proofs.Unfilled.{first_table}
 use Rattle.roll_core.proofs.batch.least_fill.Goals as goal
 

@@ -1,4 +1,4 @@
-use Rattle.std.proofs.Common.{◌∙◌, sym}
+use Rattle.roll_core.proofs.Words.{◌∙◌, sym}
 use Rattle.roll_core.proofs.Unfilled.{found_here}
 use Rattle.roll_core.proofs.batch.unfilled_at.Goals as goal
 

@@ -1,4 +1,4 @@
-use Rattle.std.proofs.Common.{◌≡◌, ◌≤◌, length}
+use Rattle.roll_core.proofs.Words.{◌≡◌, ◌≤◌, length}
 use Rattle.roll_core.specs.Changing as spec
 use Rattle.roll_core.proofs.changing.put_all.Given as goal
 

@@ -1,4 +1,4 @@
-use Rattle.std.proofs.Common.{◌≡◌, ◌++◌, drop, map}
+use Rattle.roll_core.proofs.Words.{◌≡◌, ◌++◌, drop, map}
 use Rattle.roll_core.specs.Changing as spec
 use Rattle.roll_core.proofs.changing.stored_changes.Given as goal
 

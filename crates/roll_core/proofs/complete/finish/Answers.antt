@@ -1,9 +1,7 @@
-use Rattle.std.proofs.Common.{◌≡◌, ◌∙◌, ◌++◌, List, Some, ap, drop, length, map, refl, sym, take}
+use Rattle.roll_core.proofs.Words.{◌≡◌, ◌∙◌, ◌++◌, List, Some, ap, drop, length, map, refl, sym, take, take_at}
+use Rattle.roll_core.proofs.Words.{parts, seen, left_frame, left_table, lost_columns, may_not_complete, Stored}
 use Rattle.roll_core.specs.declared.store.StoredTable.{StoredTable}
-use Rattle.roll_core.specs.Seen.{parts, seen}
-use Rattle.roll_core.specs.Stepping.{left_frame, left_table, lost_columns, may_not_complete}
-use Rattle.roll_core.specs.Store.{Stored}
-use Rattle.roll_core.proofs.Leaving.{Finishes, finish_goes, finish_keeps, finish_refused, finish_stored, written_back}
+use Rattle.roll_core.proofs.Leaving.{Finishes, finish_goes, finish_keeps, finish_refused, finish_stored}
 use Rattle.roll_core.proofs.complete.finish.Goals as goal
 
 pub returns-in-Some-clause-goes : goal.returns-in-Some-clause-goes
@@ -19,8 +17,7 @@ returns c =
     let tables = map seen before in
     let after = c.leave_all.new.tables in
     let items = take c.args.tables.now.len (after ++ drop (length after) before) in
-    let long : length after ≡ length before = c.leave_all.auto.tables ∙ ap length c.deref_mut.ensures.value in
-    let same : items ≡ after = written_back before after c.args.tables.now.len (sym c.deref_mut.ensures.len ∙ sym c.leave_all.auto.tables) long in
+    let same : items ≡ after = take_at after (drop (length after) before) c.args.tables.now.len (c.leave_all.auto.tables ∙ c.deref_mut.ensures.len) in
     let new : Stored = parts c.left_frame.new.frame c.left_frame.result items in
     let finishes : Finishes frame tables new = record {
       may = ap (λ (ts : List StoredTable). may_not_complete frame (map seen ts)) (sym c.deref.ensures.value) ∙ sym c.in_ok-refusal.ensures ∙ c.in_default.is;
@@ -28,9 +25,10 @@ returns c =
       is_former = c.left_frame.ensures.former;
       is_tables = ap (map seen) same ∙ c.leave_all.ensures ∙ ap (λ (ts : List StoredTable). map left_table (map seen ts)) c.deref_mut.ensures.value;
     } in
-    let law = c.paired_rows_are_long.ensures.unfilled in
+    let law = c.laws_below.ensures.unfilled in
     record {
       goes = finish_goes law frame c.args.former.now tables new c.requires.stored c.requires.none c.requires.active finishes;
       stored = finish_stored frame c.args.former.now tables new finishes;
+      changes = refl;
       kept = finish_keeps law frame c.args.former.now tables new c.requires.stored c.requires.active finishes;
     }

@@ -1,6 +1,4 @@
-use Rattle.std.proofs.Common.{◌≡◌, drop, map}
-use Rattle.row_rules.specs.Outcome.{first_some}
-use Rattle.roll_core.specs.Seen.{seen}
+use Rattle.roll_core.proofs.Words.{◌≡◌, drop, map, first_some, seen}
 use Rattle.roll_core.specs.Stepping as spec
 use Rattle.roll_core.proofs.complete.invalid.Given as goal
 

@@ -1,5 +1,4 @@
-use Rattle.std.proofs.Common.{◌≡◌, ◌++◌, drop, map, take}
-use Rattle.roll_core.specs.Seen.{seen}
+use Rattle.roll_core.proofs.Words.{◌≡◌, ◌++◌, drop, map, take, seen}
 use Rattle.roll_core.specs.Stepping as spec
 use Rattle.roll_core.proofs.complete.leave_all.Given as goal
 

@@ -1,6 +1,4 @@
-use Rattle.std.proofs.Common.{◌≡◌, ◌++◌, drop, map}
-use Rattle.std.specs.List.{filter_map}
-use Rattle.roll_core.specs.Seen.{seen}
+use Rattle.roll_core.proofs.Words.{◌≡◌, ◌++◌, drop, map, filter_map, seen}
 use Rattle.roll_core.specs.Stepping as spec
 use Rattle.roll_core.proofs.complete.lost_among.Given as goal
 

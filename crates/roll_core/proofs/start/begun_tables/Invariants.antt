@@ -1,5 +1,4 @@
-use Rattle.std.proofs.Common.{◌≡◌, ◌++◌, drop, map}
-use Rattle.roll_core.specs.Seen.{seen}
+use Rattle.roll_core.proofs.Words.{◌≡◌, ◌++◌, drop, map, seen}
 use Rattle.roll_core.specs.Stepping as spec
 use Rattle.roll_core.proofs.start.begun_tables.Given as goal
 

@@ -1,5 +1,5 @@
-use Rattle.std.proofs.Common.{◌≡◌, map, take}
-use Rattle.std.specs.FinMap as finite
+use Rattle.roll_core.proofs.Words.{◌≡◌, map, take}
+use Rattle.roll_core.proofs.Words.finite
 use Rattle.roll_core.specs.Stepping as spec
 use Rattle.roll_core.proofs.stepping.stepped_rows.Given as goal
 

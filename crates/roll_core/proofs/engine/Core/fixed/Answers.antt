@@ -1,7 +1,5 @@
-use Rattle.std.proofs.Common.{◌≡◌, ◌∙◌, None, ap, refl, sym, subst}
-use Rattle.roll_core.specs.Engine.{first_stored}
-use Rattle.roll_core.specs.Seen.{parts}
-use Rattle.roll_core.specs.Store.{IsStored, meaning}
+use Rattle.roll_core.proofs.Words.{◌≡◌, ◌∙◌, None, ap, refl, sym, subst}
+use Rattle.roll_core.proofs.Words.{first_stored, parts, IsStored, meaning}
 use Rattle.roll_core.proofs.First.{first_is, first_means, first_stands}
 use Rattle.roll_core.proofs.engine.Core.fixed.Goals as goal
 

@@ -1,4 +1,4 @@
-use Rattle.std.proofs.Common.{◌∙◌}
+use Rattle.roll_core.proofs.Words.{◌∙◌}
 use Rattle.roll_core.proofs.Rows.{length-meant}
 use Rattle.roll_core.proofs.store.StoredTableTableRows.count.Goals as goal
 

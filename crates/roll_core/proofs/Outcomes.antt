@@ -1,0 +1,29 @@
+-- What an outcome of several parts says of each.
+use Rattle.roll_core.proofs.Words.{◌≡◌, ◌∙◌, Option, Some, None, Result, Ok, Err, ap, refl, subst, and_then, and_then_ok, guarded, map_fault, ok_same, without}
+
+pub guarded_ok : {T E : Type 0} (fault : Option E) (next : Result T E) (y : T) → guarded fault next ≡ Ok y → (fault ≡ None) × (next ≡ Ok y)
+guarded_ok None next y h = (refl, h)
+guarded_ok (Some fault) next y h = cc
+
+pub without_ok : {T E : Type 0} (fault : Option E) (x y : T) → without fault x ≡ Ok y → (fault ≡ None) × (x ≡ y)
+without_ok None x y h = (refl, ok_same x y h)
+without_ok (Some fault) x y h = cc
+
+pub map_fault_ok : {T E F : Type 0} (of : E → F) (r : Result T E) (x : T) → map_fault of r ≡ Ok x → r ≡ Ok x
+map_fault_ok of (Ok y) x h = cc
+map_fault_ok of (Err fault) x h = cc
+
+-- What is done with a value that is accepted is accepted, and refused where the value is.
+pub ok_by : {T U E : Type 0} (r : Result T E) (o : T → Option E) (done : T → U) (x : T) → and_then r (λ y. without (o y) y) ≡ Ok x → and_then r (λ y. without (o y) (done y)) ≡ Ok (done x)
+ok_by r o done x h =
+    let step = and_then_ok r (λ y. without (o y) y) x h in
+    let made = without_ok (o step.0) step.0 x step.2 in
+    subst (λ x. and_then r (λ y. without (o y) (done y)) ≡ Ok (done x)) made.1 (rw (step.1, made.0) refl)
+
+pub err_by : {T U E : Type 0} (r : Result T E) (o : T → Option E) (done : T → U) (fault : E) → and_then r (λ y. without (o y) y) ≡ Err fault → and_then r (λ y. without (o y) (done y)) ≡ Err fault
+err_by {T} {U} {E} (Ok y) o done fault h = by_fault (o y) h
+  where
+    by_fault : (f : Option E) → without f y ≡ Err fault → without f (done y) ≡ Err fault
+    by_fault None e = cc
+    by_fault (Some other) e = let same : other ≡ fault = cc in ap Err same
+err_by (Err e) o done fault h = let same : e ≡ fault = cc in ap Err same

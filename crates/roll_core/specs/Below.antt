@@ -1,0 +1,35 @@
+-- The laws of the layers below that the engine's promises rest on.
+use Rattle.mig_lens.specs.Laws.{PlannedLensesJoin, PlansKeepSchemas}
+use Rattle.row_rules.specs.InReach.{StandingShowKeys}
+use Rattle.machine.specs.Laws.{ChangesAgree, ChangesKeep, FillingStands, RowsOnSites, RowsStandBy, SharedStands, ShowsStand, WritesStand}
+use Rattle.row_store.specs.Laws.{RemovedIsLeftOut}
+use Rattle.trigger_pair.specs.Laws.{BeginningLeaves, BegunRowsHold, FilledRowsAreLong, PairsAreLong, StoredRowsHold, UnfilledRowsAreBegun}
+use Rattle.phase_steps.specs.Laws.{LeftRowsAreFilled, LeftRowsKeep, LeftRowsShow, TrimmingKeepsView, TrimmingLeavesTrimmed}
+
+pub record Below : Type 0 where
+  -- plans
+  pub join : PlannedLensesJoin
+  pub schemas : PlansKeepSchemas
+  -- sites, and what is done to their rows
+  pub writes : WritesStand
+  pub shows : ShowsStand
+  pub shared : SharedStands
+  pub filling : FillingStands
+  pub rows : RowsStandBy
+  pub on_site : RowsOnSites
+  pub changes : ChangesKeep
+  pub agree : ChangesAgree
+  pub keys : StandingShowKeys
+  -- stored rows
+  pub removed : RemovedIsLeftOut
+  pub long : PairsAreLong
+  pub holds : StoredRowsHold
+  pub begun : BegunRowsHold
+  pub paired : BeginningLeaves
+  pub filled_long : FilledRowsAreLong
+  pub unfilled : UnfilledRowsAreBegun
+  pub shown : LeftRowsShow
+  pub kept : LeftRowsKeep
+  pub filled : LeftRowsAreFilled
+  pub trims : TrimmingKeepsView
+  pub trimmed : TrimmingLeavesTrimmed
