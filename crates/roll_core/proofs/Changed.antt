@@ -1,7 +1,6 @@
 -- Changes that are put into stored rows are the changes of the rows that these mean.
-use Rattle.roll_core.proofs.Words.{arith, ◌≡◌, ◌≤◌, ◌∙◌, ◌+◌, ℕ, List, [], ◌∷◌, ap, refl, sym, subst, length, map, int_cmp_total, AllByRecursion}
-use Rattle.roll_core.proofs.Words.{Change, Put, Remove, after_change, after_changes, OfPut, RemovedIsLeftOut, Rows}
-use Rattle.roll_core.proofs.Words.{StoredChange, Form, put_all, put_stored, rows_after, stored_change, IsStoredRow, kept}
+use Rattle.roll_core.proofs.Words.{arith, ◌≡◌, ◌≤◌, ◌∙◌, ◌+◌, ℕ, List, [], ◌∷◌, ap, refl, sym, subst, length, map, int_cmp_total, AllByRecursion, Change, Put, Remove, after_change, after_changes}
+use Rattle.roll_core.proofs.Words.{OfPut, RemovedIsLeftOut, Rows, StoredChange, Form, put_all, put_stored, rows_after, stored_change, IsStoredRow, kept}
 use Rattle.roll_core.proofs.Words.finite
 use Rattle.roll_core.proofs.Rows.{put-meant, put_all_hold, removed-meant, removed_all_hold}
 use Rattle.roll_core.proofs.Storing.{StoresRow}

@@ -1,9 +1,6 @@
 -- Each command is a step of the machine, and leaves what an engine stores.
-use Rattle.roll_core.proofs.Words.{◌≡◌, Bool, true, false, ◌==◌, Option, Some, None, Ok, Err, inl, ap, refl, sym, subst, if◌then◌else◌}
-use Rattle.roll_core.proofs.Words.{and_then_ok, ok_same, and_then, Kind, Refusal, Unfinished, Because, guarded, without, Asked, Migrates, NotRead, Reply, Refused, Mode, Calm, Both, State, CommandOutcome, Done, Nothing, as_outcome, StepsKeepLaws, StepsKeepStates, leaves_all, complete, completed, finish, may_not_start, planned, start, start_planned, stepped, tidied, too_heavy, ComesTo, Step}
-use Rattle.roll_core.proofs.Words.{Cmd, Start, command_outcome, event_of, AreKept, Goes, IsStored, Stored, meaning}
-use Rattle.roll_core.proofs.Words.kind
-use Rattle.machine.specs.Migrate.{may_not_complete}
+use Rattle.roll_core.proofs.Words.{◌≡◌, Ok, Err, inl, ap, refl, sym, subst, Refusal, Because, Reply, Refused, State, CommandOutcome, Done, Nothing, as_outcome, StepsKeepLaws, StepsKeepStates}
+use Rattle.roll_core.proofs.Words.{complete, start, ComesTo, Step, Cmd, Start, command_outcome, event_of, AreKept, Goes, IsStored, Stored, meaning}
 use Rattle.roll_core.specs.declared.commands.Cmd.TheVariants.{Complete}
 
 -- ---- steps

@@ -1,7 +1,7 @@
 -- How many rows changes leave.
-use Rattle.roll_core.proofs.Words.{arith, ◌≡◌, ◌≤◌, ◌∙◌, ℕ, suc, ◌+◌, ◌-◌, ℤ, List, [], ◌∷◌, Bool, true, false, ◌||◌, Option, Some, None, Result, Ok, cond, is_some, nat_lt, length, map, filter, ap, refl, sym, subst, int_cmp, int_eq, option_map, int_cmp_total, int_eq_equiv, Each, eq_by_cmp, nat_tests}
-use Rattle.roll_core.proofs.Words.{and_then_ok, ok_same, Value, least, Cause, Change, Put, Remove, Kept, has_key, is_taken, key_cause, keys_of, times, taken_key, put_each, rows_put, Table, Rows}
-use Rattle.roll_core.proofs.Words.{Form, put_all, put_stored, stored_change}
+use Rattle.roll_core.proofs.Words.{arith, ◌≡◌, ◌≤◌, ◌∙◌, ℕ, suc, ◌+◌, ◌-◌, ℤ, List, [], ◌∷◌, Bool, true, false, ◌||◌, Option, Some, None, Result, Ok, cond, is_some, nat_lt, length, map, filter, ap}
+use Rattle.roll_core.proofs.Words.{refl, sym, subst, int_cmp, int_eq, option_map, int_cmp_total, int_eq_equiv, Each, eq_by_cmp, nat_tests, and_then_ok, ok_same, Value, least, Cause, Change, Put}
+use Rattle.roll_core.proofs.Words.{Remove, Kept, has_key, is_taken, key_cause, keys_of, times, taken_key, put_each, rows_put, Table, Rows, Form, put_all, put_stored, stored_change}
 use Rattle.roll_core.proofs.Words.finite
 
 -- ---- rows that are put, row by row

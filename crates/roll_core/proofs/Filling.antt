@@ -1,7 +1,10 @@
 -- A batch: its rows are stored as they are filled, or it is refused as it is refused.
-use Rattle.roll_core.proofs.Words.{◌≡◌, ◌∙◌, ℕ, zero, suc, List, [], ◌∷◌, true, false, Option, Some, None, Result, Ok, Err, filter, map, take, ap, refl, sym, subst, option_map, slice_get, slice_set, Each, option_map_or}
-use Rattle.roll_core.proofs.Words.{and_then_ok, some_same, and_then, Refusal, Cause, Change, Kept, Stop, Because, NoMemory, after_changes, cause_together, changes, map_fault, without, keys_missing, rows_at, is_missing, name_of, number_of, Reply, Filled, State, CommandOutcome, answered, as_outcome, goes_on_filling, FillingStands, leaves_all, batch, fill_keys, least_batch, refused_batch, HalvesAgree, SiteRow, Ascends, Found, Shared, filling_site, missing_keys, rows_of, shared, site_of, with_rows, changed_by, written_reply, New, RemovedIsLeftOut}
-use Rattle.roll_core.proofs.Words.{Form, Own, Paired, Left, Trimmed, OwnTable, Fills, FillsThrough, batch_at, batch_changes, changes_at, changed, Comes, FormSuits, Runs, RowsStored, SameForms, meant, seen, StoredTable, kept, rows_meant, table_meant, Below}
+use Rattle.roll_core.proofs.Words.{◌≡◌, ◌∙◌, ℕ, List, [], true, false, Option, Some, None, Result, Ok, Err, filter, map, take, ap, refl, sym, subst, option_map, slice_get, slice_set, Each}
+use Rattle.roll_core.proofs.Words.{option_map_or, and_then_ok, some_same, and_then, Refusal, Cause, Change, Kept, Stop, Because, NoMemory, after_changes, cause_together, changes, map_fault, without}
+use Rattle.roll_core.proofs.Words.{keys_missing, rows_at, is_missing, name_of, number_of, Reply, Filled, State, CommandOutcome, answered, as_outcome, goes_on_filling, leaves_all, batch, fill_keys}
+use Rattle.roll_core.proofs.Words.{least_batch, refused_batch, HalvesAgree, SiteRow, Ascends, Found, Shared, filling_site, missing_keys, rows_of, shared, site_of, with_rows, changed_by, written_reply}
+use Rattle.roll_core.proofs.Words.{New, Form, OwnTable, Fills, FillsThrough, batch_at, batch_changes, changes_at, changed, Comes, FormSuits, Runs, RowsStored, SameForms, meant, seen, StoredTable}
+use Rattle.roll_core.proofs.Words.{kept, rows_meant, table_meant, Below}
 use Rattle.roll_core.proofs.Words.finite
 use Rattle.roll_core.proofs.Words.job
 use Rattle.roll_core.proofs.Changed.{Stores, changes_meant, changes_stored}

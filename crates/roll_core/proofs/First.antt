@@ -1,7 +1,6 @@
 -- What an engine stores at first.
-use Rattle.roll_core.proofs.Words.{nil_from_length, ◌≡◌, ◌∙◌, List, [], ◌∷◌, ◌++◌, None, ap, refl, sym, int_cmp, length}
-use Rattle.roll_core.proofs.Words.{Value, State, RunsReachLawful, RunsReachStates, beginning, Rows}
-use Rattle.roll_core.proofs.Words.{Own, first_stored, parts, seen, IsStored, StoredRow, Stored, meaning}
+use Rattle.roll_core.proofs.Words.{nil_from_length, ◌≡◌, ◌∙◌, List, [], ◌∷◌, ◌++◌, None, ap, refl, sym, int_cmp, Value, State, RunsReachLawful, RunsReachStates, beginning, Rows, Own, first_stored}
+use Rattle.roll_core.proofs.Words.{parts, seen, IsStored, meaning}
 use Rattle.roll_core.proofs.Words.finite
 use Rattle.roll_core.proofs.Words.store
 use Rattle.roll_core.specs.declared.store.StoredTable.{StoredTable}

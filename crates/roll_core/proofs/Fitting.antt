@@ -1,7 +1,9 @@
 -- The rows that a job puts can be stored in the form of their table.
-use Rattle.roll_core.proofs.Words.{◌≡◌, ◌∙◌, ℕ, ℤ, List, [], ◌∷◌, Bool, true, false, ◌&&◌, Option, Some, None, is_some, cond, int_cmp, Ordering, Less, Equal, Greater, map, ap, refl, sym, subst, option_map, option_and_then, T, int_eq_equiv, is_sorted, below_all, Each, eq_by_cmp, is_eq, is_lt}
-use Rattle.roll_core.proofs.Words.{row_fits, some_same, Value, Table, table_numbered, Halves, Kept, Beside, number_of, shape_of, Rows, Calm, State, HalvesAgree, PairStands, SiteRow, TableStands, may_miss_beside, new_table_by, table_by, HalfStands, NewStands, Found, Shared, beside_on, lens_between, newer_schema, shared, site_of, table_on, New, Old, Side, FilledBefore, Pair}
-use Rattle.roll_core.proofs.Words.{Form, Own, Paired, Left, Trimmed, FormSuits, LeftBy, IsStoredRow, StoredRow, kept, lost_columns_by, pair_over}
+use Rattle.roll_core.proofs.Words.{◌≡◌, ◌∙◌, ℕ, ℤ, List, [], ◌∷◌, Bool, true, false, Option, Some, None, is_some, cond, int_cmp, Ordering, Less, Equal, Greater, map, ap, refl, sym, subst, option_map}
+use Rattle.roll_core.proofs.Words.{option_and_then, T, int_eq_equiv, is_sorted, below_all, Each, eq_by_cmp, is_eq, is_lt, row_fits, some_same, Value, Table, table_numbered, Halves, Kept, Beside}
+use Rattle.roll_core.proofs.Words.{number_of, shape_of, Rows, Calm, State, HalvesAgree, PairStands, SiteRow, TableStands, may_miss_beside, new_table_by, table_by, HalfStands, NewStands, Found, Shared}
+use Rattle.roll_core.proofs.Words.{beside_on, lens_between, newer_schema, shared, site_of, table_on, New, Old, Side, FilledBefore, Pair, Form, Own, Paired, Left, Trimmed, FormSuits, LeftBy}
+use Rattle.roll_core.proofs.Words.{IsStoredRow, StoredRow, kept, lost_columns_by, pair_over}
 use Rattle.roll_core.proofs.Words.finite
 use Rattle.std.specs.FinMap.{find}
 use Rattle.roll_core.proofs.Made.{HasNew}

@@ -1,7 +1,9 @@
 -- What a job changes can be stored.
-use Rattle.roll_core.proofs.Words.{slice_get_within, arith, ◌≡◌, ◌∙◌, ◌<◌, ◌+◌, ℕ, zero, suc, ℤ, List, [], ◌∷◌, Bool, true, false, if◌then◌else◌, Option, Some, None, Ok, length, map, ap, refl, sym, subst, option_map, slice_get, slice_index_or, Each, nat_tests, get_or-take}
-use Rattle.roll_core.proofs.Words.{some_same, Value, Null, Cell, Carry, Make, Still, is_carried_from, Table, Change, Put, Remove, Job, Kept, changes, Site, number_of, shape_of, Calm, State, ChangesAgree, ChangesKeep, RowsOnSites, RowsStandBy, SharedStands, BesideStands, ChangeAgrees, ChangeStands, HalvesAgree, JobStands, OfPut, PairStands, SiteRow, SiteStands, TableStands, IsState, RowsStand, Found, Shared, beside_on, rows_of, shared, site_of, table_on, New, Old, Side, Rows, Pair, IsPair, PairsAreLong, is_marked, new_half, new_view, old_view, places}
-use Rattle.roll_core.proofs.Words.{Form, Own, Paired, Left, Trimmed, FormSuits, StoredRow, kept, Below}
+use Rattle.roll_core.proofs.Words.{slice_get_within, arith, ◌≡◌, ◌∙◌, ◌<◌, ◌+◌, ℕ, zero, suc, ℤ, List, [], ◌∷◌, Bool, true, false, if◌then◌else◌, Option, Some, None, Ok, length, map, ap, refl, sym}
+use Rattle.roll_core.proofs.Words.{subst, option_map, slice_get, slice_index_or, Each, nat_tests, get_or-take, some_same, Value, Null, Cell, Carry, Make, Still, is_carried_from, Table, Change, Put}
+use Rattle.roll_core.proofs.Words.{Remove, Job, Kept, changes, Site, number_of, shape_of, Calm, State, RowsOnSites, RowsStandBy, BesideStands, ChangeAgrees, ChangeStands, HalvesAgree, JobStands}
+use Rattle.roll_core.proofs.Words.{OfPut, PairStands, SiteRow, SiteStands, TableStands, IsState, RowsStand, Found, Shared, beside_on, rows_of, shared, site_of, table_on, New, Old, Side, Rows, Pair}
+use Rattle.roll_core.proofs.Words.{IsPair, PairsAreLong, is_marked, new_half, new_view, old_view, places, Form, Own, Paired, Left, Trimmed, FormSuits, StoredRow, kept, Below}
 use Rattle.roll_core.proofs.Words.finite
 use Rattle.roll_core.proofs.Changed.{Stores}
 use Rattle.roll_core.proofs.Fitting.{Weighs, calm_shared, form_stands, storable}

@@ -1,7 +1,12 @@
 -- The first step of completing leaves stored rows that mean what the machine leaves.
-use Rattle.roll_core.proofs.Words.{arith, ◌≡◌, ◌∙◌, ℕ, zero, suc, ℤ, List, [], ◌∷◌, ◌++◌, take, drop, Bool, true, false, ◌||◌, ◌==◌, Option, Some, None, Ok, Err, inl, inr, ◌⊎◌, find, is_none, is_some, nat_eq, nat_lt, map, filter, cond, ap, refl, sym, subst, length, option_map, option_and_then, if◌then◌else◌, slice_get, AllByRecursion, cons_option, filter_map, list_any, option_map_or, option_or, nat_tests}
-use Rattle.roll_core.proofs.Words.{either_none, some_same, Schema, Value, least, Lens, Kind, Refusal, NotFilled, Unfinished, Fate, table_numbered, Kept, first_some, without, name_of, invalid_cause, Mode, Calm, Both, State, complete, completed, completed_row, completed_tables, finish, lost_columns_in, lost_in_table, not_valid, numbers_of, stepped, tidied, CommandOutcome, Complete, IsState, ModeStands, NewerStands, Shared, lens_among, lens_between, newer_schema, rows_of, shared, table_on, New, Pair, IsPair, UnfilledRowsAreBegun, IsFilledRow, IsPairedRow, is_marked, new_view, old_view}
-use Rattle.roll_core.proofs.Words.{Paired, Left, Former, meant, numbers_in, AreKept, Goes, former_by, former_of, invalid_in, left_by, left_form, left_frame, left_parts, left_table, lost_by, lost_columns, may_not_complete, not_filled_in, IsStored, IsStoredRow, IsStoredTable, Stored, StoredRow, StoredTable, form_in, kept, lost_columns_by, over_pair, pair_over, rows_meant, table_meant}
+use Rattle.roll_core.proofs.Words.{meaning, arith, ◌≡◌, ◌∙◌, ℕ, ℤ, List, [], ◌∷◌, Bool, true, false, ◌==◌, Option, Some, None, Ok, Err, inl, inr, ◌⊎◌, find, is_none, is_some, nat_lt, map, filter, cond, ap}
+use Rattle.roll_core.proofs.Words.{refl, sym, subst, option_map, option_and_then, if◌then◌else◌, slice_get, AllByRecursion, cons_option, filter_map, option_map_or, option_or, nat_tests, either_none}
+use Rattle.roll_core.proofs.Words.{Schema, Value, least, Lens, Kind, Refusal, NotFilled, Unfinished, Fate, table_numbered, Kept, first_some, without, name_of, invalid_cause, Mode, Calm, Both, State}
+use Rattle.roll_core.proofs.Words.{complete, completed, completed_row, completed_tables, finish, lost_columns_in, lost_in_table, not_valid, stepped, tidied, CommandOutcome, Complete, IsState}
+use Rattle.roll_core.proofs.Words.{ModeStands, NewerStands, Shared, lens_among, rows_of, shared, table_on, New, Pair, IsPair, UnfilledRowsAreBegun, IsFilledRow, IsPairedRow, is_marked, new_view}
+use Rattle.roll_core.proofs.Words.{old_view, Paired, Left, Former, meant, numbers_in, AreKept, Goes, former_by, former_of, invalid_in, left_by, left_form, left_frame, left_parts, left_table, lost_by}
+use Rattle.roll_core.proofs.Words.{lost_columns, may_not_complete, not_filled_in, IsStored, IsStoredRow, IsStoredTable, Stored, StoredRow, StoredTable, kept, lost_columns_by, over_pair, pair_over}
+use Rattle.roll_core.proofs.Words.{rows_meant, table_meant}
 use Rattle.roll_core.proofs.Words.kind
 use Rattle.roll_core.proofs.Words.migrate
 use Rattle.row_rules.specs.Rows.{missing_keys}

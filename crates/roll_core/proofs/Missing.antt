@@ -1,6 +1,6 @@
 -- The first rows that are still to be filled, and the first table that has any.
-use Rattle.roll_core.proofs.Words.{arith, ◌≡◌, ◌∙◌, ℕ, zero, suc, ℤ, List, [], ◌∷◌, Bool, true, false, ◌||◌, if◌then◌else◌, length, map, nat_lt, take, filter, ap, refl, sym, subst, int_cmp, int_eq, Ordering, Less, Equal, Greater, Each, list_any, is_eq, ordering_reverse, nat_tests, int_cmp_total, tied_itself}
-use Rattle.roll_core.proofs.Words.{Kept, rows_at, is_missing, Ascends}
+use Rattle.roll_core.proofs.Words.{int_eq_equiv, arith, ◌≡◌, ◌∙◌, ℕ, zero, suc, ℤ, List, [], ◌∷◌, Bool, true, false, ◌||◌, if◌then◌else◌, length, map, nat_lt, take, filter, ap, refl, sym, subst, int_cmp, int_eq}
+use Rattle.roll_core.proofs.Words.{Less, Each, list_any, is_eq, nat_tests, int_cmp_total, Kept, rows_at, is_missing, Ascends}
 use Rattle.row_rules.specs.Rows.{missing_keys}
 
 -- ---- the rows of the first keys

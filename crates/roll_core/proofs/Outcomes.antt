@@ -1,5 +1,5 @@
 -- What an outcome of several parts says of each.
-use Rattle.roll_core.proofs.Words.{◌≡◌, ◌∙◌, Option, Some, None, Result, Ok, Err, ap, refl, subst, and_then, and_then_ok, guarded, map_fault, ok_same, without}
+use Rattle.roll_core.proofs.Words.{◌≡◌, Option, Some, None, Result, Ok, Err, ap, refl, subst, and_then, and_then_ok, guarded, map_fault, ok_same, without}
 
 pub guarded_ok : {T E : Type 0} (fault : Option E) (next : Result T E) (y : T) → guarded fault next ≡ Ok y → (fault ≡ None) × (next ≡ Ok y)
 guarded_ok None next y h = (refl, h)

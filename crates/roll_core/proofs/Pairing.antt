@@ -1,7 +1,6 @@
 -- What both versions have of a table, and that it is a pair.
-use Rattle.roll_core.proofs.Words.{◌≡◌, ◌∙◌, ℕ, List, Option, Some, None, true, ap, refl, sym, subst, option_map, option_and_then}
-use Rattle.roll_core.proofs.Words.{some_same, Schema, Shape, Lens, Fate, IsSchema, Joins, IsWellFormed, fits, Table, table_numbered, shape_of, Shared, lens_among, IsPair}
-use Rattle.roll_core.proofs.Words.{pair_over}
+use Rattle.roll_core.proofs.Words.{lens_between, newer_schema, Both, State, form_in, over_pair, Paired, Former, shared, ◌≡◌, ◌∙◌, ℕ, List, Option, Some, None, true, ap, refl, sym, subst, option_map, option_and_then, some_same, Schema, Shape, Lens, Fate, IsSchema, Joins, IsWellFormed}
+use Rattle.roll_core.proofs.Words.{fits, Table, table_numbered, shape_of, Shared, lens_among, IsPair, pair_over}
 
 -- What both have, where they have it and a lens.
 abbrev pub shared_of : Option Lens → Option Table → Option Table → Option Shared

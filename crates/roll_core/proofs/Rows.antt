@@ -1,6 +1,6 @@
 -- Stored rows, and the rows that they mean.
-use Rattle.roll_core.proofs.Words.{Bor, ◌≡◌, ◌∙◌, ℤ, List, [], ◌∷◌, Bool, true, false, ◌||◌, not, Option, Some, None, is_some, int_cmp, int_eq, Ordering, Less, Equal, Greater, ap, refl, sym, length, map, filter, cond, put, picked, where_key, int_eq_equiv, AllByRecursion, list_any, option_copied, eq_by_cmp, match_ordering, length-map}
-use Rattle.roll_core.proofs.Words.{Value, Kept, put_row, Rows}
+use Rattle.roll_core.proofs.Words.{Bor, ◌≡◌, ◌∙◌, ℤ, List, [], ◌∷◌, Bool, true, false, ◌||◌, not, Option, Some, None, is_some, int_cmp, int_eq, Ordering, Less, Equal, Greater, ap, refl, sym, length}
+use Rattle.roll_core.proofs.Words.{map, filter, cond, put, picked, where_key, int_eq_equiv, AllByRecursion, list_any, option_copied, eq_by_cmp, match_ordering, length-map, Value, Kept, put_row, Rows}
 use Rattle.roll_core.proofs.Words.{Form, StoredRow, kept}
 use Rattle.roll_core.proofs.Words.finite
 

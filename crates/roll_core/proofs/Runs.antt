@@ -1,8 +1,9 @@
 -- What an engine stores is what its steps are promised.
-use Rattle.roll_core.proofs.Words.{arith, ◌≡◌, ◌∙◌, ℕ, List, [], ◌∷◌, Bool, true, false, ◌||◌, ◌==◌, Option, Some, None, if◌then◌else◌, is_some, nat_eq, ap, refl, sym, subst, option_map, option_and_then, Each, list_all, list_any, nat_tests}
-use Rattle.roll_core.proofs.Words.{both_true, some_same, Schema, Lens, Fate, IsSchema, Joins, IsWellFormed, fits, Table, table_numbered, shape_of, Mode, Calm, Both, State, numbers_of, IsState, ModeStands, NewerStands, Shared, lens_among, lens_between, lost_columns_of, newer_schema, shared, table_on, New, Old, Pair, IsPair}
-use Rattle.roll_core.proofs.Words.{Form, Own, Paired, Left, Trimmed, Former, FormSuits, LeftBy, Runs, RowsStored, meant, numbers_in, FormerStands, HasFormer, IsStored, IsStoredTable, Stored, StoredTable, both_again, calm_form, former_pair, lost_columns_by, over_pair, pair_over}
-use Rattle.roll_core.proofs.Pairing.{active_form, active_shared, joined_both, joined_pair, shared_parts}
+use Rattle.roll_core.proofs.Words.{meaning, shared, ◌≡◌, ◌∙◌, ℕ, List, Bool, true, false, ◌==◌, Option, Some, None, if◌then◌else◌, nat_eq, ap, refl, sym, subst, list_any, some_same, Schema, Fate, IsSchema}
+use Rattle.roll_core.proofs.Words.{table_numbered, shape_of, Mode, Calm, Both, State, IsState, ModeStands, NewerStands, Shared, lens_among, shared, Pair, IsPair, Form, Own, Paired, Left, Trimmed}
+use Rattle.roll_core.proofs.Words.{Former, FormSuits, LeftBy, Runs, numbers_in, FormerStands, HasFormer, IsStored, IsStoredTable, Stored, StoredTable, both_again, calm_form, former_pair, over_pair}
+use Rattle.roll_core.proofs.Words.{pair_over}
+use Rattle.roll_core.proofs.Pairing.{shared_in, active_form, active_shared, joined_both, joined_pair, shared_parts}
 use Rattle.roll_core.proofs.Tables.{all_at, each_of, each_place, numbers_of-meant, own_number}
 
 -- ---- while both versions stand

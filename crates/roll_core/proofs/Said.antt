@@ -1,7 +1,7 @@
 -- A statement that is answered is a step of the machine, and what is stored afterwards is what an engine stores.
-use Rattle.roll_core.proofs.Words.{arith, ◌≡◌, ◌∙◌, ℕ, zero, suc, List, [], ◌∷◌, ◌++◌, true, Option, Result, Ok, Err, inl, inr, length, map, take, drop, ap, refl, sym, subst, Each}
-use Rattle.roll_core.proofs.Words.{Stop, Because, NoMemory, Event, Reply, State, Nothing, Outcome, after_of, reply_to, wrote_by, StepsKeepLaws, StepsKeepStates, leaves_all, lost_columns_of, LaneStep, Step, may_want, outcome_of}
-use Rattle.roll_core.proofs.Words.{Form, Former, Comes, RowsStored, SameForms, meant, reply_of, IsStored, IsStoredTable, Stored, StoredTable, form_in, lost_columns_by}
+use Rattle.roll_core.proofs.Words.{◌≡◌, ◌∙◌, ℕ, List, [], ◌∷◌, true, Option, Result, Ok, Err, inl, inr, map, ap, refl, sym, subst, Each, Stop, Because, NoMemory, Event, Reply, State, Nothing, Outcome}
+use Rattle.roll_core.proofs.Words.{after_of, reply_to, wrote_by, StepsKeepLaws, StepsKeepStates, leaves_all, lost_columns_of, LaneStep, Step, may_want, outcome_of, Form, Former, Comes, RowsStored}
+use Rattle.roll_core.proofs.Words.{SameForms, meant, reply_of, IsStored, IsStoredTable, Stored, StoredTable, form_in, lost_columns_by}
 
 -- ---- the step
 

@@ -1,7 +1,12 @@
 -- What a statement changes in its table is accepted or refused as the machine has it, and leads to what the machine says.
-use Rattle.roll_core.proofs.Words.{slice_get-get_or, arith, ◌≡◌, ◌≤◌, ◌<◌, ◌∙◌, ◌^◌, ◌-◌, min, ℕ, zero, suc, ◌+◌, ℤ, List, [], ◌∷◌, true, false, Option, Some, None, Result, Ok, Err, if◌then◌else◌, is_some, nat_lt, length, map, int_cmp, ap, refl, sym, subst, option_map, slice_get, slice_index_or, slice_set, Each, option_or, nat_tests, length-map}
-use Rattle.roll_core.proofs.Words.{and_then_ok, ok_same, some_same, and_then, every, Cause, Change, Put, Remove, Job, Kept, SqlError, clashes, has_key, total_weight, heavy_statement, max_total, row_error, after_changes, altered_row, cause_together, changes, keys_changed, matching, new_keys_cause, refused_together, rows_put, Stop, Because, NoMemory, Answers, guarded, map_fault, Site, number_of, shape_of, Reply, State, Done, Outcome, leaves_all, JobStands, OfPut, TableStands, Found, lost_columns_of, row_count, rows_of, site_of, with_rows, error_reply, max_rows, too_many_rows, written_reply, RemovedIsLeftOut, Rows, IsState}
-use Rattle.roll_core.proofs.Words.{Form, Own, Paired, Left, Trimmed, OwnTable, changed, rows_after, with_changes, Comes, FormSuits, IsSite, IsStatement, Runs, RowsStored, SameForms, accepted, meant, refused_all, stored_count, too_many, too_many_error, own_count, seen, StoredRow, StoredTable, kept, lost_columns_by, rows_meant, table_meant, Below}
+use Rattle.roll_core.proofs.Words.{slice_get-get_or, arith, ◌≡◌, ◌≤◌, ◌<◌, ◌∙◌, ◌^◌, ◌-◌, min, ℕ, ◌+◌, ℤ, List, [], ◌∷◌, true, false, Option, Some, None, Result, Ok, Err, if◌then◌else◌, is_some}
+use Rattle.roll_core.proofs.Words.{nat_lt, length, map, int_cmp, ap, refl, sym, subst, option_map, slice_get, slice_index_or, slice_set, Each, option_or, nat_tests, length-map, and_then_ok, ok_same}
+use Rattle.roll_core.proofs.Words.{some_same, and_then, every, Cause, Change, Put, Remove, Job, Kept, SqlError, clashes, has_key, total_weight, heavy_statement, max_total, row_error, after_changes}
+use Rattle.roll_core.proofs.Words.{altered_row, cause_together, changes, keys_changed, matching, new_keys_cause, refused_together, rows_put, Stop, Because, NoMemory, Answers, guarded, map_fault, Site}
+use Rattle.roll_core.proofs.Words.{number_of, shape_of, Reply, State, Done, Outcome, leaves_all, JobStands, OfPut, TableStands, Found, lost_columns_of, row_count, rows_of, site_of, with_rows}
+use Rattle.roll_core.proofs.Words.{error_reply, max_rows, too_many_rows, written_reply, Rows, IsState, Form, OwnTable, changed, rows_after, with_changes, Comes, FormSuits, IsSite, IsStatement, Runs}
+use Rattle.roll_core.proofs.Words.{RowsStored, SameForms, accepted, meant, refused_all, stored_count, too_many, too_many_error, own_count, seen, StoredRow, StoredTable, kept, lost_columns_by}
+use Rattle.roll_core.proofs.Words.{rows_meant, table_meant, Below}
 use Rattle.roll_core.proofs.Words.finite
 use Rattle.roll_core.proofs.Words.job
 use Rattle.roll_core.proofs.Words.statement

@@ -1,7 +1,11 @@
 -- START leaves stored rows that mean what the machine leaves.
-use Rattle.roll_core.proofs.Words.{◌≡◌, ◌∙◌, ℕ, List, [], ◌∷◌, Bool, true, false, ◌==◌, Option, Some, None, Result, Ok, Err, inl, inr, map, ap, refl, sym, subst, find, if◌then◌else◌, AllByRecursion, Each, map-map, option_map_or, option_or}
-use Rattle.roll_core.proofs.Words.{row_fits, and_then_ok, either_none, ok_same, and_then, Value, Lens, Kind, PlanFault, Refusal, Unfinished, Migration, Plan, IsSchema, Joins, PlannedLensesJoin, PlansKeepSchemas, has_mark, plan_of, table_numbered, Kept, Stop, Because, NoMemory, Answers, guarded, without, shape_of, begun_row, Mode, Calm, Both, State, CommandOutcome, Done, Started, active, machine_begun, may_not_start, planned, start_planned, start_read, started, steps_left, taken, too_heavy, unplanned, unrun, HalfStands, IsState, RowsStand, StepsStand, TablesStand, may_lose, Shared, lens_among, lost_columns_of, table_on, Migrates, Old, Pair, BeginningLeaves, BegunRowsHold, IsPair, IsBegunRow, IsPairedRow, new_half, new_view}
-use Rattle.roll_core.proofs.Words.{Form, Own, Paired, Former, meant, AreKept, AreRun, Goes, StartStores, begun_form, begun_frame, begun_table, startable, stepped_row, HasFormer, IsStoredRow, IsStoredTable, StoredRow, Stored, StoredTable, form_in, kept, lost_columns_by, over_pair, pair_over, table_meant, Below}
+use Rattle.roll_core.proofs.Words.{◌≡◌, ◌∙◌, ℕ, List, [], ◌∷◌, Bool, true, false, Option, Some, None, Result, Ok, Err, inl, inr, map, ap, refl, sym, subst, if◌then◌else◌, AllByRecursion, Each}
+use Rattle.roll_core.proofs.Words.{map-map, option_map_or, option_or, row_fits, and_then_ok, either_none, and_then, Value, Lens, Kind, PlanFault, Refusal, Unfinished, Migration, Plan, IsSchema, Joins}
+use Rattle.roll_core.proofs.Words.{has_mark, plan_of, table_numbered, Kept, Stop, Because, NoMemory, Answers, guarded, without, shape_of, begun_row, Mode, Calm, Both, State, CommandOutcome, Done}
+use Rattle.roll_core.proofs.Words.{Started, active, machine_begun, may_not_start, planned, start_planned, start_read, started, steps_left, taken, too_heavy, unplanned, unrun, HalfStands, IsState}
+use Rattle.roll_core.proofs.Words.{RowsStand, StepsStand, TablesStand, may_lose, Shared, lens_among, table_on, Migrates, Old, Pair, BeginningLeaves, BegunRowsHold, IsPair, IsBegunRow, IsPairedRow}
+use Rattle.roll_core.proofs.Words.{new_half, new_view, Form, Own, Paired, Former, meant, AreKept, AreRun, Goes, StartStores, begun_form, begun_frame, begun_table, startable, stepped_row, HasFormer}
+use Rattle.roll_core.proofs.Words.{IsStoredRow, IsStoredTable, StoredRow, Stored, StoredTable, form_in, kept, lost_columns_by, over_pair, pair_over, table_meant, Below}
 use Rattle.roll_core.proofs.Words.kind
 use Rattle.roll_core.proofs.Words.reply_of
 use Rattle.trigger_pair.specs.Stored.{begun}

@@ -1,7 +1,7 @@
 -- Rows that a step stores anew stand in the order in which they stood.
-use Rattle.roll_core.proofs.Words.{arith, ◌≡◌, ◌∙◌, ◌<◌, ℕ, zero, suc, ℤ, List, [], ◌∷◌, Bool, true, false, ◌&&◌, Some, None, int_cmp, Ordering, Less, Equal, Greater, ap, refl, sym, subst, length, map, take, T, slice_get, int_cmp_total, is_sorted, put, below_all, by_order, is_lt, ordering_reverse}
-use Rattle.roll_core.proofs.Words.{some_same, Each, Kept, Value, Rows}
-use Rattle.roll_core.proofs.Words.{Form, IsStoredRow, kept, stepped_row, stepped_values, StoredRow}
+use Rattle.roll_core.proofs.Words.{arith, ◌≡◌, ◌∙◌, ◌<◌, ℕ, zero, suc, ℤ, List, [], ◌∷◌, Bool, true, false, ◌&&◌, Some, None, int_cmp, Ordering, Less, Equal, Greater, ap, refl, sym, subst, length}
+use Rattle.roll_core.proofs.Words.{map, take, T, slice_get, int_cmp_total, is_sorted, put, below_all, by_order, is_lt, ordering_reverse, some_same, Each, Kept, Value, Rows, Form, IsStoredRow, kept}
+use Rattle.roll_core.proofs.Words.{stepped_row, stepped_values, StoredRow}
 use Rattle.roll_core.proofs.Words.finite
 
 pub split : (a b : Bool) → T (a && b) → T a × T b

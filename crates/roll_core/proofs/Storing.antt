@@ -1,6 +1,8 @@
 -- The halves of what is stored are the halves that it is made of.
-use Rattle.roll_core.proofs.Words.{get_or_append_left, ◌≡◌, ◌∙◌, ◌<◌, ℕ, zero, suc, ℤ, ◌+◌, List, [], ◌∷◌, ◌++◌, true, false, if◌then◌else◌, Option, Some, None, ap, refl, sym, subst, length, map, take, append_assoc, unwrap_or, arith, not, inl, zero-add, slice_index_or, filter, enumerate_from, zip, take_at, sum_by-cons}
-use Rattle.roll_core.proofs.Words.{Value, Null, row_fits, and_false, columns_fit, columns_long, row_long, value_weight, Cell, Carry, Make, Still, is_carry, Halves, Kept, lost_columns_in, lost_value, lost_weight, Pair, Agree, IsPair, PairsAreLong, StoredRowsHold, IsFilledRow, is_marked, mark_value, new_half, new_view, old_view, shadow_values, stored_row, FilledBefore, LeftRowsAreFilled, LeftRowsKeep, LeftRowsShow, TrimmingKeepsView, TrimmingLeavesTrimmed, left_row, left_value, trimmed, trimmed_view}
+use Rattle.roll_core.proofs.Words.{get_or_append_left, ◌≡◌, ◌∙◌, ◌<◌, ℕ, suc, ℤ, ◌+◌, List, [], ◌∷◌, ◌++◌, true, false, if◌then◌else◌, Option, Some, None, ap, refl, sym, subst, length, map, take}
+use Rattle.roll_core.proofs.Words.{append_assoc, unwrap_or, arith, not, inl, zero-add, slice_index_or, filter, enumerate_from, zip, take_at, sum_by-cons, Value, Null, row_fits, and_false, columns_fit}
+use Rattle.roll_core.proofs.Words.{columns_long, row_long, value_weight, Cell, Carry, Make, Still, is_carry, Halves, Kept, lost_columns_in, lost_value, lost_weight, Pair, Agree, IsPair, PairsAreLong}
+use Rattle.roll_core.proofs.Words.{IsFilledRow, is_marked, mark_value, new_half, new_view, old_view, shadow_values, stored_row, FilledBefore, LeftRowsKeep, left_row, left_value, trimmed, trimmed_view}
 use Rattle.roll_core.proofs.Words.{Form, Own, Paired, Left, Trimmed, IsStoredRow, kept, lost_of, stored_values, Below}
 
 -- ---- which rows can be stored in a form

@@ -1,7 +1,8 @@
 -- The second and the third step of completing leave stored rows that mean what the machine leaves.
 use Rattle.roll_core.proofs.Words.{arith, ◌≡◌, ◌∙◌, ℕ, List, [], ◌∷◌, Bool, true, false, ◌==◌, Option, Some, None, Ok, inl, inr, ◌⊎◌, map, ap, refl, sym, subst, if◌then◌else◌, Each, map-id, map-map}
-use Rattle.roll_core.proofs.Words.{Value, Kept, Mode, Calm, Both, State, Complete, complete, stepped, table_without_loss, tidied, without_loss, IsState, ModeStands, StepsStand, Shared, Pair, FilledRowsAreLong, IsPair, TrimmingKeepsView, TrimmingLeavesTrimmed}
-use Rattle.roll_core.proofs.Words.{Form, Own, Left, Trimmed, Former, meant, AreKept, Goes, stepped_row, tidied_form, tidied_frame, tidied_former, tidied_number, tidied_parts, tidied_table, HasFormer, IsStored, IsStoredRow, IsStoredTable, Stored, StoredRow, StoredTable, form_in, former_pair, kept, lost_columns_by, over_pair, pair_over, rows_meant, table_meant, Below}
+use Rattle.roll_core.proofs.Words.{Value, Kept, Mode, Calm, Both, State, Complete, complete, stepped, table_without_loss, tidied, without_loss, ModeStands, StepsStand, Shared, Pair, IsPair, Form, Own}
+use Rattle.roll_core.proofs.Words.{Left, Trimmed, Former, meant, AreKept, Goes, stepped_row, tidied_form, tidied_frame, tidied_former, tidied_number, tidied_parts, tidied_table, HasFormer, IsStored}
+use Rattle.roll_core.proofs.Words.{IsStoredRow, IsStoredTable, Stored, StoredRow, StoredTable, form_in, former_pair, kept, lost_columns_by, over_pair, pair_over, rows_meant, table_meant, Below}
 use Rattle.roll_core.proofs.Words.kind
 use Rattle.roll_core.proofs.Runs.{former_by}
 use Rattle.roll_core.proofs.Stepped.{StepsTo, rows_next}

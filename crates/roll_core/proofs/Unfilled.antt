@@ -1,7 +1,8 @@
 -- The first table with a row that is still to be filled, as it is found among the stored tables.
-use Rattle.roll_core.proofs.Words.{slice_get-get_or, arith, ◌≡◌, ◌∙◌, ◌<◌, ℕ, zero, suc, List, [], ◌∷◌, Bool, true, false, if◌then◌else◌, Option, Some, None, find, drop, length, map, nat_lt, filter, ap, refl, sym, option_map, option_and_then, slice_get, slice_index_or, Each, option_map_or, option_or, length-map}
-use Rattle.roll_core.proofs.Words.{either_none, some_same, keys_missing, Calm, State, bad_batch, first_of, has_missing, inactive, may_not_fill, steps_left, unfilled_tables, Shared, missing_keys, rows_of, shared}
-use Rattle.roll_core.proofs.Words.{Form, Own, Paired, Left, Trimmed, FirstUnfilled, is_unfilled, number_at, OwnTable, FormSuits, Runs, meant, seen, StoredTable, rows_meant, table_meant}
+use Rattle.roll_core.proofs.Words.{slice_get-get_or, arith, ◌≡◌, ◌∙◌, ◌<◌, ℕ, zero, suc, List, [], ◌∷◌, Bool, true, false, if◌then◌else◌, Option, Some, None, find, drop, length, map, nat_lt, filter}
+use Rattle.roll_core.proofs.Words.{ap, refl, sym, option_map, option_and_then, slice_get, slice_index_or, Each, option_map_or, option_or, length-map, either_none, some_same, keys_missing, Calm, State}
+use Rattle.roll_core.proofs.Words.{bad_batch, first_of, has_missing, inactive, may_not_fill, steps_left, unfilled_tables, Shared, missing_keys, rows_of, shared, Form, Own, Paired, Left, Trimmed}
+use Rattle.roll_core.proofs.Words.{FirstUnfilled, is_unfilled, number_at, OwnTable, FormSuits, Runs, meant, seen, StoredTable, rows_meant, table_meant}
 use Rattle.roll_core.proofs.Missing.{any_left}
 use Rattle.roll_core.proofs.Tables.{all_at, each_place, got_mapped, rows_of-read}
 

@@ -1,6 +1,6 @@
 -- A statement that writes: its rows are stored as they are made, or it is refused as it is refused.
-use Rattle.roll_core.proofs.Words.{◌≡◌, ◌∙◌, List, [], ◌∷◌, false, Option, Some, None, Ok, is_some, map, ap, refl, sym, subst, Each}
-use Rattle.roll_core.proofs.Words.{every, Value, Change, Put, Remove, Job, Kept, has_key, key_cause, changes, new_keys_cause, new_row, rows_put, Site, number_of, shape_of, State, JobStands, OfPut, TableStands, IsState, Found, lost_columns_of, rows_of, site_of, Rows}
+use Rattle.roll_core.proofs.Words.{◌≡◌, ◌∙◌, List, [], ◌∷◌, false, Option, Some, None, Ok, is_some, map, ap, refl, sym, subst, Each, every, Value, Change, Put, Remove, Job, Kept, has_key, key_cause}
+use Rattle.roll_core.proofs.Words.{changes, new_keys_cause, new_row, rows_put, Site, number_of, shape_of, State, JobStands, OfPut, TableStands, IsState, Found, lost_columns_of, rows_of, site_of, Rows}
 use Rattle.roll_core.proofs.Words.{Form, FormSuits, IsStatement, IsStoredRow, kept, lost_columns_by, Below}
 use Rattle.roll_core.proofs.Words.finite
 use Rattle.roll_core.proofs.Words.job

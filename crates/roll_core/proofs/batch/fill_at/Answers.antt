@@ -1,6 +1,4 @@
-use Rattle.roll_core.proofs.Words.{slice_get-get_or, ◌≡◌, ◌∙◌, Some, ap, map, sym, subst, slice_get}
-use Rattle.roll_core.proofs.Words.{filling_site, shared, Job, Site}
-use Rattle.roll_core.proofs.Words.{FillsThrough, seen}
+use Rattle.roll_core.proofs.Words.{slice_get-get_or, ◌≡◌, ◌∙◌, Some, ap, map, sym, subst, slice_get, filling_site, shared, Job, Site, FillsThrough, seen}
 use Rattle.roll_core.proofs.Words.plain
 use Rattle.roll_core.specs.declared.store.StoredTable.{StoredTable}
 use Rattle.roll_core.proofs.Filling.{alone, filled}

@@ -1,5 +1,4 @@
-use Rattle.roll_core.proofs.Words.{◌≡◌, ◌∙◌, ◌++◌, List, Some, ap, drop, length, map, refl, sym, take, take_at}
-use Rattle.roll_core.proofs.Words.{parts, seen, left_frame, left_table, lost_columns, may_not_complete, Stored}
+use Rattle.roll_core.proofs.Words.{◌≡◌, ◌∙◌, ◌++◌, List, Some, ap, drop, length, map, refl, sym, take, take_at, parts, seen, left_frame, left_table, lost_columns, may_not_complete, Stored}
 use Rattle.roll_core.specs.declared.store.StoredTable.{StoredTable}
 use Rattle.roll_core.proofs.Leaving.{Finishes, finish_goes, finish_keeps, finish_refused, finish_stored}
 use Rattle.roll_core.proofs.complete.finish.Goals as goal

@@ -1,6 +1,4 @@
-use Rattle.roll_core.proofs.Words.{◌≡◌, Err, List, Ok, map, refl, subst}
-use Rattle.roll_core.proofs.Words.{start_read, Answers}
-use Rattle.roll_core.proofs.Words.{meant, parts, seen, startable}
+use Rattle.roll_core.proofs.Words.{◌≡◌, Err, List, Ok, map, refl, subst, start_read, Answers, meant, parts, seen, startable}
 use Rattle.roll_core.specs.declared.store.StoredTable.{StoredTable}
 use Rattle.roll_core.proofs.Starting.{Leaves, start_goes, start_keeps, start_refused, start_stores, stops}
 use Rattle.roll_core.proofs.start.start_read.Goals as goal

@@ -1,6 +1,4 @@
-use Rattle.roll_core.proofs.Words.{◌≡◌, ◌∙◌, Ok, Result, map, ap, refl}
-use Rattle.roll_core.proofs.Words.{and_then, Reply, Set, answered, Begun, Sets, Shows, Writes, begun, finished}
-use Rattle.roll_core.proofs.Words.{meant, seen}
+use Rattle.roll_core.proofs.Words.{◌≡◌, ◌∙◌, Ok, Result, map, ap, refl, and_then, Reply, Set, answered, Begun, Sets, begun, finished, meant, seen}
 use Rattle.roll_core.proofs.Words.sites
 use Rattle.roll_core.proofs.Words.plain
 use Rattle.roll_core.proofs.Begun.{begun-meant, shows_site, writes_site}

@@ -1,6 +1,4 @@
-use Rattle.roll_core.proofs.Words.{◌≡◌, ◌∙◌, Ok, Err, Result, List, map, ap, refl, sym}
-use Rattle.roll_core.proofs.Words.{Value, and_then, Kept, SqlError, max_reply, map_fault, rows_shown, Select, answered, error_reply}
-use Rattle.roll_core.proofs.Words.{meant, seen}
+use Rattle.roll_core.proofs.Words.{◌≡◌, ◌∙◌, Ok, Err, Result, List, map, ap, refl, sym, Value, and_then, Kept, SqlError, max_reply, map_fault, rows_shown, Select, answered, error_reply, meant, seen}
 use Rattle.roll_core.proofs.Words.sites
 use Rattle.roll_core.proofs.Reached.{rows_show}
 use Rattle.roll_core.proofs.Tables.{read_at, rows_of-read, site_there}

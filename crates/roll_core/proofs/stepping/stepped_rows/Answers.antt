@@ -1,6 +1,4 @@
-use Rattle.roll_core.proofs.Words.{arith, Bor, List, ℤ, option_map, ◌≡◌, ◌∙◌, Some, add-one, ap, sym, slice_get, common_steps}
-use Rattle.roll_core.proofs.Words.{Value}
-use Rattle.roll_core.proofs.Words.{stepped_values}
+use Rattle.roll_core.proofs.Words.{arith, Bor, List, ℤ, option_map, ◌≡◌, ◌∙◌, Some, add-one, ap, sym, slice_get, common_steps, Value, stepped_values}
 use Rattle.roll_core.proofs.Words.finite
 use Rattle.roll_core.proofs.Stepped.{none_past, none_stored, stepped_next, stepped_whole}
 use Rattle.roll_core.proofs.stepping.stepped_rows.Goals as goal

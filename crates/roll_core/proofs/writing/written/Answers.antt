@@ -1,5 +1,4 @@
-use Rattle.roll_core.proofs.Words.{rules, ◌≡◌, ◌∙◌, ℕ, Ok, ap, map, refl, sym, slice_index_or}
-use Rattle.roll_core.proofs.Words.{accepted, meant, stored_count, seen}
+use Rattle.roll_core.proofs.Words.{rules, ◌∙◌, ℕ, Ok, ap, map, refl, sym, slice_index_or, accepted, meant, seen}
 use Rattle.roll_core.proofs.Words.sites
 use Rattle.roll_core.proofs.Words.statement
 use Rattle.roll_core.proofs.Reached.{rows_show}
