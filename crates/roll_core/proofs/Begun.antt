@@ -1,8 +1,8 @@
 -- The begin of a statement over a frame is that over the state that it means.
-use Rattle.roll_core.proofs.Words.{Value, Below, ◌≡◌, ◌∙◌, ℕ, List, [], ◌∷◌, Option, Some, None, Result, Ok, Err, ap, refl, sym, subst, ok_or, option_map, option_or, and_then, Expr, Items, Stmt, Insert, Update}
-use Rattle.roll_core.proofs.Words.{Delete, Query, SetPath, Job, guarded, without, condition_error, delete_job, insert_job, query_error, rows_inserted, sets_settled, update_job, SqlError, Site}
-use Rattle.roll_core.proofs.Words.{number_of, shape_of, Reply, State, JobStands, TableStands, Found, site_of, table_of, table_on, table_through, Begun, Sets, Shows, Writes, begun, error_reply}
-use Rattle.roll_core.proofs.Words.{long_insert, no_table, on_table, writes, New, Old, Side, IsSite, IsStatement, Runs, meant, StoredTable}
+use Rattle.roll_core.proofs.Words.{Value, Below, ◌≡◌, ◌∙◌, ℕ, List, [], ◌∷◌, Option, Some, None, Result, Ok, Err, ap, refl, sym, subst, ok_or, option_map, option_or, and_then, Expr, Items, Stmt}
+use Rattle.roll_core.proofs.Words.{Insert, Update, Delete, Query, SetPath, Job, guarded, without, condition_error, delete_job, insert_job, query_error, rows_inserted, sets_settled, update_job}
+use Rattle.roll_core.proofs.Words.{SqlError, Site, number_of, shape_of, Reply, State, JobStands, TableStands, Found, site_of, table_of, table_on, table_through, Begun, Sets, Shows, Writes, begun}
+use Rattle.roll_core.proofs.Words.{error_reply, long_insert, no_table, on_table, writes, New, Old, Side, IsSite, IsStatement, Runs, meant, StoredTable}
 use Rattle.roll_core.proofs.Words.job
 
 found_meant : (frame : State) (tables : List StoredTable) (path : List (List ℕ)) (name : List ℕ) → table_of (meant frame tables) path name ≡ table_of frame path name

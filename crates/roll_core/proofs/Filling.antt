@@ -7,7 +7,7 @@ use Rattle.roll_core.proofs.Words.{New, Form, OwnTable, Fills, FillsThrough, bat
 use Rattle.roll_core.proofs.Words.{kept, rows_meant, table_meant, Below}
 use Rattle.roll_core.proofs.Words.finite
 use Rattle.roll_core.proofs.Words.job
-use Rattle.roll_core.proofs.Changed.{Stores, changes_meant, changes_stored}
+use Rattle.roll_core.proofs.Rows.{Stores, changes_meant, changes_stored}
 use Rattle.roll_core.proofs.Fitting.{Weighs, older_weigh}
 use Rattle.roll_core.proofs.Jobs.{job_stores, stored_agree, stored_sites}
 use Rattle.roll_core.proofs.Outcomes.{err_by, map_fault_ok, ok_by, without_ok}

@@ -5,7 +5,7 @@ use Rattle.roll_core.proofs.Words.{Remove, Job, Kept, changes, Site, number_of, 
 use Rattle.roll_core.proofs.Words.{OfPut, PairStands, SiteRow, SiteStands, TableStands, IsState, RowsStand, Found, Shared, beside_on, rows_of, shared, site_of, table_on, New, Old, Side, Rows, Pair}
 use Rattle.roll_core.proofs.Words.{IsPair, PairsAreLong, is_marked, new_half, new_view, old_view, places, Form, Own, Paired, Left, Trimmed, FormSuits, StoredRow, kept, Below}
 use Rattle.roll_core.proofs.Words.finite
-use Rattle.roll_core.proofs.Changed.{Stores}
+use Rattle.roll_core.proofs.Rows.{Stores}
 use Rattle.roll_core.proofs.Fitting.{Weighs, calm_shared, form_stands, storable}
 use Rattle.roll_core.proofs.Made.{HasNew, Placed, PutBy, SideOf, changes_placed}
 use Rattle.roll_core.proofs.Storing.{stores_row}

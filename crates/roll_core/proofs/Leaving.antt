@@ -1,18 +1,16 @@
 -- The first step of completing leaves stored rows that mean what the machine leaves.
-use Rattle.roll_core.proofs.Words.{meaning, arith, ◌≡◌, ◌∙◌, ℕ, ℤ, List, [], ◌∷◌, Bool, true, false, ◌==◌, Option, Some, None, Ok, Err, inl, inr, ◌⊎◌, find, is_none, is_some, nat_lt, map, filter, cond, ap}
-use Rattle.roll_core.proofs.Words.{refl, sym, subst, option_map, option_and_then, if◌then◌else◌, slice_get, AllByRecursion, cons_option, filter_map, option_map_or, option_or, nat_tests, either_none}
-use Rattle.roll_core.proofs.Words.{Schema, Value, least, Lens, Kind, Refusal, NotFilled, Unfinished, Fate, table_numbered, Kept, first_some, without, name_of, invalid_cause, Mode, Calm, Both, State}
-use Rattle.roll_core.proofs.Words.{complete, completed, completed_row, completed_tables, finish, lost_columns_in, lost_in_table, not_valid, stepped, tidied, CommandOutcome, Complete, IsState}
-use Rattle.roll_core.proofs.Words.{ModeStands, NewerStands, Shared, lens_among, rows_of, shared, table_on, New, Pair, IsPair, UnfilledRowsAreBegun, IsFilledRow, IsPairedRow, is_marked, new_view}
-use Rattle.roll_core.proofs.Words.{old_view, Paired, Left, Former, meant, numbers_in, AreKept, Goes, former_by, former_of, invalid_in, left_by, left_form, left_frame, left_parts, left_table, lost_by}
-use Rattle.roll_core.proofs.Words.{lost_columns, may_not_complete, not_filled_in, IsStored, IsStoredRow, IsStoredTable, Stored, StoredRow, StoredTable, kept, lost_columns_by, over_pair, pair_over}
-use Rattle.roll_core.proofs.Words.{rows_meant, table_meant}
+use Rattle.roll_core.proofs.Words.{nat_eq, list_any, Each, Below, ◌||◌, meaning, arith, ◌≡◌, ◌∙◌, ℕ, List, [], ◌∷◌, Bool, true, false, ◌==◌, Option, Some, None, Ok, Err, inl, inr, find, is_some, nat_lt, map, ap, refl}
+use Rattle.roll_core.proofs.Words.{sym, subst, option_map, option_and_then, if◌then◌else◌, slice_get, AllByRecursion, cons_option, filter_map, option_map_or, option_or, nat_tests, either_none, Schema}
+use Rattle.roll_core.proofs.Words.{Value, least, Lens, Kind, Refusal, NotFilled, Unfinished, Fate, Kept, first_some, without, name_of, invalid_cause, Mode, Calm, Both, State, complete, completed}
+use Rattle.roll_core.proofs.Words.{completed_row, finish, lost_columns_in, lost_in_table, not_valid, stepped, tidied, CommandOutcome, Complete, IsState, ModeStands, NewerStands, Shared, lens_among}
+use Rattle.roll_core.proofs.Words.{rows_of, shared, table_on, New, Pair, IsPair, UnfilledRowsAreBegun, IsFilledRow, IsPairedRow, is_marked, new_view, old_view, Paired, Left, Former, meant, numbers_in}
+use Rattle.roll_core.proofs.Words.{AreKept, Goes, former_by, former_of, invalid_in, left_by, left_form, left_frame, left_parts, left_table, lost_by, lost_columns, may_not_complete, not_filled_in}
+use Rattle.roll_core.proofs.Words.{IsStored, IsStoredRow, IsStoredTable, Stored, StoredRow, StoredTable, kept, lost_columns_by, over_pair, pair_over, rows_meant, table_meant}
 use Rattle.roll_core.proofs.Words.kind
 use Rattle.roll_core.proofs.Words.migrate
 use Rattle.row_rules.specs.Rows.{missing_keys}
 use Rattle.roll_core.proofs.Runs.{BothHave, both_have}
-use Rattle.roll_core.proofs.Tidying.{same_parts}
-use Rattle.roll_core.proofs.Tables.{all_at, each_place, numbers_of-meant, own_number, rows_of-read}
+use Rattle.roll_core.proofs.Tables.{all_at, each_place, got_mapped, numbers_of-meant, own_number, rows_of-read}
 
 -- ---- why it may not be completed
 
@@ -53,19 +51,14 @@ may_same frame tables stands =
 
 -- ---- nothing is left to be filled
 
-no_least : (keys : List ℤ) → least keys ≡ None → keys ≡ []
-no_least [] h = refl
-no_least (key ∷ keys) h = cc
-
-unmarked : (pair : Pair) (rows : List StoredRow) → missing_keys (map (kept (Paired pair)) rows) ≡ [] → AllByRecursion (λ row. is_marked pair row.1 ≡ false) rows
+-- A row that has its new half isn't marked.
+unmarked : (pair : Pair) (rows : List StoredRow) → Each (λ row. is_some row.halves.new ≡ true) (map (kept (Paired pair)) rows) → Each (λ row. is_marked pair row.1 ≡ false) rows
 unmarked pair [] h = tt
-unmarked pair (row ∷ rows) h = by_mark (unmarked pair rows) (is_marked pair row.1) refl h
+unmarked pair (row ∷ rows) h = (by_mark (is_marked pair row.1) h.0, unmarked pair rows h.1)
   where
-    by_mark : (missing_keys (map (kept (Paired pair)) rows) ≡ [] → AllByRecursion (λ row. is_marked pair row.1 ≡ false) rows) → (b : Bool) → is_marked pair row.1 ≡ b
-        → map {A = Kept} (λ row. row.key) (cond (is_none (if◌then◌else◌ {A = Option (List Value)} b None (Some (new_view pair row.1)))) (kept (Paired pair) row ∷ filter (λ row. is_none row.halves.new) (map (kept (Paired pair)) rows)) (filter (λ row. is_none row.halves.new) (map (kept (Paired pair)) rows))) ≡ []
-        → (is_marked pair row.1 ≡ false) × AllByRecursion (λ row. is_marked pair row.1 ≡ false) rows
-    by_mark there true e h = cc
-    by_mark there false e h = (e, there h)
+    by_mark : (b : Bool) → is_some (if◌then◌else◌ {A = Option (List Value)} b None (Some (new_view pair row.1))) ≡ true → b ≡ false
+    by_mark true h = cc
+    by_mark false h = refl
 
 -- The new half of such a row stays, and it is a filled row.
 rows_stay : (pair : Pair) (rows : List StoredRow) → AllByRecursion (λ row. is_marked pair row.1 ≡ false) rows → map (kept (Left pair)) rows ≡ map (completed_row (Some pair.lens)) (map (kept (Paired pair)) rows)
@@ -96,15 +89,15 @@ entry number lens = option_and_then (λ lens. if nat_lt 0 (lost_columns_in lens)
 none_is_zero : (n : ℕ) → nat_lt 0 n ≡ false → n ≡ 0
 none_is_zero n h = grind (arith, nat_tests)
 
-here_found : (own number : ℕ) (lens : Option Lens) (rest : List (ℕ × ℕ)) → (own == number) ≡ true → (found rest number ≡ amount lens) ⊎ (found rest number ≡ 0) → found (cons_option (entry own lens) rest) number ≡ amount lens
-here_found own number None rest e (inl h) = h
-here_found own number None rest e (inr h) = h
-here_found own number (Some lens) rest e h = by_test (nat_lt 0 (lost_columns_in lens)) refl h
+here_found : (number : ℕ) (lens : Option Lens) (rest : List (ℕ × ℕ)) (there : Bool) → found rest number ≡ (if there then amount lens else 0) → found (cons_option (entry number lens) rest) number ≡ amount lens
+here_found number None rest true h = h
+here_found number None rest false h = h
+here_found number (Some lens) rest there h = by_test (nat_lt 0 (lost_columns_in lens)) refl there h
   where
-    by_test : (b : Bool) → nat_lt 0 (lost_columns_in lens) ≡ b → (found rest number ≡ lost_columns_in lens) ⊎ (found rest number ≡ 0) → found (cons_option (if b then Some (own, lost_columns_in lens) else None) rest) number ≡ lost_columns_in lens
-    by_test true t h = ap (λ b. option_map_or {T = ℕ × ℕ} (λ lost. lost.1) (if b then Some (own, lost_columns_in lens) else find (λ lost. lost.0 == number) rest) 0) e
-    by_test false t (inl h) = h
-    by_test false t (inr h) = h ∙ sym (none_is_zero (lost_columns_in lens) t)
+    by_test : (b : Bool) → nat_lt 0 (lost_columns_in lens) ≡ b → (there : Bool) → found rest number ≡ (if there then lost_columns_in lens else 0) → found (cons_option (if b then Some (number, lost_columns_in lens) else None) rest) number ≡ lost_columns_in lens
+    by_test true t there h = let same : (number == number) ≡ true = grind (arith, nat_tests) in rw same refl
+    by_test false t true h = h
+    by_test false t false h = h ∙ sym (none_is_zero (lost_columns_in lens) t)
 
 other_found : (own number : ℕ) (lens : Option Lens) (rest : List (ℕ × ℕ)) → (own == number) ≡ false → found (cons_option (entry own lens) rest) number ≡ found rest number
 other_found own number None rest e = refl
@@ -114,49 +107,23 @@ other_found own number (Some lens) rest e = by_test (nat_lt 0 (lost_columns_in l
     by_test true = ap (λ b. option_map_or {T = ℕ × ℕ} (λ lost. lost.1) (if b then Some (own, lost_columns_in lens) else find (λ lost. lost.0 == number) rest) 0) e
     by_test false = refl
 
--- No table has this number.
-abbrev NoneHas : ℕ → List StoredTable → Type 0
-NoneHas number tables = AllByRecursion (λ table. (table.number == number) ≡ false) tables
-
-lost_found : (fates : List (ℕ × Fate)) (number : ℕ) (tables : List StoredTable) → (found (filter_map (lost_by fates) tables) number ≡ amount (lens_among fates number)) ⊎ (NoneHas number tables × (found (filter_map (lost_by fates) tables) number ≡ 0))
-lost_found fates number [] = inr (tt, refl)
-lost_found fates number (table ∷ tables) = by_test (table.number == number) refl (lost_found fates number tables)
+lost_found : (fates : List (ℕ × Fate)) (number : ℕ) (tables : List StoredTable) → found (filter_map (lost_by fates) tables) number ≡ (if list_any (nat_eq number) (numbers_in tables) then amount (lens_among fates number) else 0)
+lost_found fates number [] = refl
+lost_found fates number (table ∷ tables) = by_test (nat_eq number table.number) refl (lost_found fates number tables)
   where
     rest : List (ℕ × ℕ)
     rest = filter_map (lost_by fates) tables
 
-    step : found (filter_map (lost_by fates) (table ∷ tables)) number ≡ found (cons_option (entry table.number (lens_among fates table.number)) rest) number
-    step = refl
+    there : Bool
+    there = list_any (nat_eq number) (numbers_in tables)
 
-    by_test : (b : Bool) → (table.number == number) ≡ b → (found rest number ≡ amount (lens_among fates number)) ⊎ (NoneHas number tables × (found rest number ≡ 0))
-        → (found (filter_map (lost_by fates) (table ∷ tables)) number ≡ amount (lens_among fates number)) ⊎ (NoneHas number (table ∷ tables) × (found (filter_map (lost_by fates) (table ∷ tables)) number ≡ 0))
+    by_test : (b : Bool) → nat_eq number table.number ≡ b → found rest number ≡ (if there then amount (lens_among fates number) else 0) → found (cons_option (entry table.number (lens_among fates table.number)) rest) number ≡ (if b || there then amount (lens_among fates number) else 0)
     by_test true e h =
-        let same : table.number ≡ number = grind (arith, nat_tests) in
-        inl (step ∙ ap (λ n. found (cons_option (entry table.number (lens_among fates n)) rest) number) same ∙ here_found table.number number (lens_among fates number) rest e (elim h [ inl h ↦ inl h | inr h ↦ inr h.1 ]))
-    by_test false e (inl h) = inl (step ∙ other_found table.number number (lens_among fates table.number) rest e ∙ h)
-    by_test false e (inr h) = inr ((e, h.0), step ∙ other_found table.number number (lens_among fates table.number) rest e ∙ h.1)
-
-lost_at : (fates : List (ℕ × Fate)) (tables : List StoredTable) (at : ℕ) (table : StoredTable) → slice_get tables at ≡ Some table → found (filter_map (lost_by fates) tables) table.number ≡ amount (lens_among fates table.number)
-lost_at fates tables at table e = by_way (lost_found fates table.number tables)
-  where
-    by_way : (found (filter_map (lost_by fates) tables) table.number ≡ amount (lens_among fates table.number)) ⊎ (NoneHas table.number tables × (found (filter_map (lost_by fates) tables) table.number ≡ 0)) → found (filter_map (lost_by fates) tables) table.number ≡ amount (lens_among fates table.number)
-    by_way (inl h) = h
-    by_way (inr h) =
-        let no = all_at (λ (t : StoredTable). (t.number == table.number) ≡ false) tables at table h.0 e in
-        let yes : (table.number == table.number) ≡ true = grind (arith, nat_tests) in cc
+        let same : number ≡ table.number = grind (arith, nat_tests) in
+        subst (λ own. found (cons_option (entry own (lens_among fates own)) rest) number ≡ amount (lens_among fates number)) same (here_found number (lens_among fates number) rest there h)
+    by_test false e h = let differ : (table.number == number) ≡ false = grind (arith, nat_tests) in other_found table.number number (lens_among fates table.number) rest differ ∙ h
 
 -- ---- a table that stays
-
-none_missing : (frame : State) (table : StoredTable) (both : Shared) → shared frame table.number ≡ Some both → not_filled_in frame table ≡ None → missing_keys (rows_meant table) ≡ []
-none_missing frame table both e h = no_least (missing_keys (rows_meant table)) (by_least (least (missing_keys (rows_meant table))) (sym (ap (option_and_then {U = Refusal} (λ (both : Shared). option_map (λ key. NotFilled (name_of both.new) key) (least (missing_keys (rows_meant table))))) e) ∙ h))
-  where
-    by_least : (o : Option ℤ) → option_map (λ key. NotFilled (name_of both.new) key) o ≡ None → o ≡ None
-    by_least None h = refl
-    by_least (Some key) h = cc
-
-none_each : (frame : State) (tables : List StoredTable) → first_some (not_filled_in frame) tables ≡ None → AllByRecursion (λ table. not_filled_in frame table ≡ None) tables
-none_each frame [] h = tt
-none_each frame (table ∷ tables) h = let parts = either_none (not_filled_in frame table) (first_some (not_filled_in frame) tables) h in (parts.0, none_each frame tables parts.1)
 
 -- What holds of it.
 record Stays (frame : State) (all : List StoredTable) (schema : Schema) (fates : List (ℕ × Fate)) (table : StoredTable) : Type 0 where
@@ -167,16 +134,15 @@ record Stays (frame : State) (all : List StoredTable) (schema : Schema) (fates :
 
 stays_at : (stored : Stored) (name : List ℕ) (schema : Schema) (fates : List (ℕ × Fate)) → stored.frame.mode ≡ Both name schema fates
     → IsState (meaning stored) → (at : ℕ) (table : StoredTable) → slice_get stored.tables at ≡ Some table → IsStoredTable stored table
-    → not_filled_in stored.frame table ≡ None → Stays stored.frame stored.tables schema fates table
-stays_at stored name schema fates m stands at table e h none =
+    → Each (λ row. is_some row.halves.new ≡ true) (rows_meant table) → Stays stored.frame stored.tables schema fates table
+stays_at stored name schema fates m stands at table e h new =
     let have = both_have stored name schema fates m stands table (own_number stored.tables at table e) h in
     let pair = pair_over have.both in
-    let missing = none_missing stored.frame table have.both have.shares none in
     record {
       have = have;
-      unmarked = unmarked pair table.rows (subst (λ form. missing_keys (map (kept form) table.rows) ≡ []) have.form missing);
+      unmarked = unmarked pair table.rows (subst (λ form. Each (λ row. is_some row.halves.new ≡ true) (map (kept form) table.rows)) have.form new);
       paired = subst (λ form. AllByRecursion (λ row. IsStoredRow form row.1) table.rows) have.form h.rows;
-      lost = lost_at fates stored.tables at table e;
+      lost = lost_found fates table.number stored.tables ∙ ap (λ b. if b then amount (lens_among fates table.number) else 0) (own_number stored.tables at table e);
     }
 
 -- ---- what the step leaves of the tables
@@ -189,14 +155,12 @@ table_stays frame all schema fates table h =
     ∙ ap (λ lens. (table.number, map (completed_row lens) (map (kept (Paired pair)) table.rows))) (sym h.have.lens)
     ∙ ap (λ form. (table.number, map (completed_row (lens_among fates table.number)) (map (kept form) table.rows))) (sym h.have.form)
 
-tables_stay : (frame : State) (all : List StoredTable) (schema : Schema) (fates : List (ℕ × Fate)) (tables : List StoredTable) → AllByRecursion (Stays frame all schema fates) tables → map table_meant (map left_table tables) ≡ completed_tables schema fates (map table_meant tables)
+tables_stay : (frame : State) (all : List StoredTable) (schema : Schema) (fates : List (ℕ × Fate)) (tables : List StoredTable) → Each (Stays frame all schema fates) tables
+    → map table_meant (map left_table tables) ≡ map {B = ℕ × List Kept} (λ table. (table.0, map (completed_row (lens_among fates table.0)) table.1)) (map table_meant tables)
 tables_stay frame all schema fates [] h = refl
 tables_stay frame all schema fates (table ∷ tables) h =
-    let done : ℕ × List Kept → ℕ × List Kept = λ table. (table.0, map (completed_row (lens_among fates table.0)) table.1) in
-    let rest = filter (λ (table : ℕ × List Kept). is_some (table_numbered schema table.0)) (map table_meant tables) in
     ap (λ (t : ℕ × List Kept). t ∷ map table_meant (map left_table tables)) (table_stays frame all schema fates table h.0)
-    ∙ ap (λ (ts : List (ℕ × List Kept)). done (table_meant table) ∷ ts) (tables_stay frame all schema fates tables h.1)
-    ∙ sym (ap (λ b. map done (cond b (table_meant table ∷ rest) rest)) (ap is_some h.0.have.new))
+    ∙ ap (λ (ts : List (ℕ × List Kept)). (table.number, map (completed_row (lens_among fates table.number)) (rows_meant table)) ∷ ts) (tables_stay frame all schema fates tables h.1)
 
 lost_same : (fates : List (ℕ × Fate)) (tables : List StoredTable) → filter_map (lost_in_table fates) (map table_meant (map left_table tables)) ≡ filter_map (lost_by fates) tables
 lost_same fates [] = refl
@@ -231,24 +195,26 @@ record IsFinished (frame : State) (tables : List StoredTable) (name : List ℕ) 
   means : meant (left_frame (lost_columns frame.mode tables) frame) (map left_table tables) ≡ completed (meant frame tables) name schema fates
   kept : AreKept (record { frame = left_frame (lost_columns frame.mode tables) frame; former = former_of frame; tables = map left_table tables })
 
-is_finished : UnfilledRowsAreBegun → (frame : State) (former : Option Former) (tables : List StoredTable) (name : List ℕ) (schema : Schema) (fates : List (ℕ × Fate)) → frame.mode ≡ Both name schema fates → IsStored (record { frame = frame; former = former; tables = tables }) → may_not_complete frame tables ≡ None
+is_finished : Below → (frame : State) (former : Option Former) (tables : List StoredTable) (name : List ℕ) (schema : Schema) (fates : List (ℕ × Fate)) → frame.mode ≡ Both name schema fates → IsStored (record { frame = frame; former = former; tables = tables }) → may_not_complete frame tables ≡ None
     → IsFinished frame tables name schema fates
 is_finished law frame former tables name schema fates m stored may =
     let s = meant frame tables in
     let newer : NewerStands s name schema fates = subst (ModeStands s) m stored.stands.mode in
-    let none = none_each frame tables (either_none (first_some (not_filled_in frame) tables) (option_map not_valid (first_some (invalid_in frame) tables)) may).0 in
+    let none = (either_none (first_some (not_filled_in frame) tables) (option_map not_valid (first_some (invalid_in frame) tables)) may).0 in
+    let filled = ap (migrate.not_filled s) (numbers_of-meant frame tables) ∙ filled_all frame tables tables (rows_are frame tables stored.stands) ∙ none in
+    let new = law.halves s name schema fates stored.stands m filled in
     let parts : Stored = record { frame = frame; former = former; tables = tables } in
     let stay = each_place (Stays frame tables schema fates) tables (λ at table e. stays_at parts name schema fates m stored.stands at table e
-    (all_at (IsStoredTable parts) tables at table stored.tables e) (all_at (λ table. not_filled_in frame table ≡ None) tables at table none e)) in
+    (all_at (IsStoredTable parts) tables at table stored.tables e) (all_at (λ (table : ℕ × List Kept). Each (λ row. is_some row.halves.new ≡ true) table.1) (map table_meant tables) at (table_meant table) new (got_mapped table_meant tables at table e))) in
     let whole : List (ℕ × List Kept) → List (ℕ × ℕ) → State = λ ts lost. record { version = name; schema = schema; mode = Calm; left = 2; kind = kind.Complete; next_table = frame.next_table; tables = ts; lost_columns = lost } in
     record {
       means = ap (λ mode. meant (left_by frame (lost_columns mode tables) mode) (map left_table tables)) m
           ∙ ap (whole (map table_meant (map left_table tables))) (sym (lost_same fates tables))
-          ∙ ap (λ (ts : List (ℕ × List Kept)). whole ts (filter_map (lost_in_table fates) ts)) (tables_stay frame tables schema fates tables stay);
+          ∙ ap (λ (ts : List (ℕ × List Kept)). whole ts (filter_map (lost_in_table fates) ts)) (tables_stay frame tables schema fates tables stay ∙ sym (ap (map (λ (table : ℕ × List Kept). (table.0, map (completed_row (lens_among fates table.0)) table.1))) (law.stay s name schema fates stored.stands m)));
       kept = subst (λ mode. AreKept (record { frame = left_by frame (lost_columns mode tables) mode; former = former_by frame mode; tables = map left_table tables })) (sym m) (record {
         once = stored.once;
         former = (omega arith, record { schema = stored.stands.version.schema_stands; joined = newer.joined });
-        tables = left_stored law frame tables name schema fates (map left_table tables) tables stay;
+        tables = left_stored law.unfilled frame tables name schema fates (map left_table tables) tables stay;
       });
     }
 
@@ -279,28 +245,13 @@ finish_refused frame tables refusal stands k a h =
     let active = is_active frame.mode a in
     complete_is s active.name active.schema active.fates k active.is ∙ ap (λ may. without may (stepped 1 (completed s active.name active.schema active.fates))) (may_same frame tables stands ∙ h)
 
--- What a call of the step leaves.
-pub record Finishes (frame : State) (tables : List StoredTable) (new : Stored) : Type 0 where
-  pub may : may_not_complete frame tables ≡ None
-  pub is_frame : new.frame ≡ left_frame (lost_columns frame.mode tables) frame
-  pub is_former : new.former ≡ former_of frame
-  pub is_tables : new.tables ≡ map left_table tables
-
-pub finish_goes : UnfilledRowsAreBegun → (frame : State) (former : Option Former) (tables : List StoredTable) (new : Stored) → IsStored (record { frame = frame; former = former; tables = tables }) → frame.kind ≡ kind.Nothing → migrate.inactive frame.mode ≡ None → Finishes frame tables new
-    → Goes (record { frame = frame; former = former; tables = tables }) (complete (meant frame tables)) (Ok (Complete 1)) new
-finish_goes law frame former tables new stored k a f =
-    let s = meant frame tables in
-    let active = is_active frame.mode a in
-    let is = is_finished law frame former tables active.name active.schema active.fates active.is stored f.may in
-    let outcome = complete_is s active.name active.schema active.fates k active.is ∙ ap (λ may. without may (stepped 1 (completed s active.name active.schema active.fates))) (may_same frame tables stored.stands ∙ f.may) in
-    (stepped 1 (completed s active.name active.schema active.fates), outcome, refl, ap (λ fr. meant fr new.tables) f.is_frame ∙ ap (meant (left_frame (lost_columns frame.mode tables) frame)) f.is_tables ∙ is.means)
-
-pub finish_stored : (frame : State) (former : Option Former) (tables : List StoredTable) (new : Stored) → Finishes frame tables new → new ≡ left_parts (record { frame = frame; former = former; tables = tables })
-finish_stored frame former tables new f =
-    same_parts new.frame (left_frame (lost_columns frame.mode tables) frame) new.former (former_of frame) new.tables (map left_table tables) f.is_frame f.is_former f.is_tables
-
-pub finish_keeps : UnfilledRowsAreBegun → (frame : State) (former : Option Former) (tables : List StoredTable) (new : Stored) → IsStored (record { frame = frame; former = former; tables = tables }) → migrate.inactive frame.mode ≡ None → Finishes frame tables new → AreKept new
-finish_keeps law frame former tables new stored a f =
-    let active = is_active frame.mode a in
-    let is = is_finished law frame former tables active.name active.schema active.fates active.is stored f.may in
-    subst AreKept (sym (finish_stored frame former tables new f)) is.kept
+-- The first step goes as the machine's does.
+pub finishes : Below → (stored : Stored) → IsStored stored → stored.frame.kind ≡ kind.Nothing → migrate.inactive stored.frame.mode ≡ None → may_not_complete stored.frame stored.tables ≡ None
+    → Goes stored (complete (meaning stored)) (Ok (Complete 1)) (left_parts stored) × AreKept (left_parts stored)
+finishes law stored is k a may =
+    let s = meaning stored in
+    let active = is_active stored.frame.mode a in
+    let done = is_finished law stored.frame stored.former stored.tables active.name active.schema active.fates active.is is may in
+    let step = stepped 1 (completed s active.name active.schema active.fates) in
+    let outcome = complete_is s active.name active.schema active.fates k active.is ∙ ap (λ may. without may step) (may_same stored.frame stored.tables is.stands ∙ may) in
+    ((step, outcome, refl, done.means), done.kept)

@@ -12,12 +12,11 @@ use Rattle.roll_core.proofs.Words.job
 use Rattle.roll_core.proofs.Words.statement
 use Rattle.std.specs.FinMap.{find}
 use Rattle.roll_core.proofs.Begun.{stands_there}
-use Rattle.roll_core.proofs.Changed.{Stores, changes_meant, changes_stored}
+use Rattle.roll_core.proofs.Rows.{Stores, changes_meant, changes_stored, has_key-stored}
 use Rattle.roll_core.proofs.Counted.{distinct_rows, new_count, removed_count, rows_are, same_count}
 use Rattle.roll_core.proofs.Fitting.{sorted_found}
 use Rattle.roll_core.proofs.Made.{Placed, changes_placed}
 use Rattle.roll_core.proofs.Outcomes.{guarded_ok, map_fault_ok}
-use Rattle.roll_core.proofs.Rows.{has_key-stored}
 use Rattle.roll_core.proofs.Tables.{IsRead, all_at, all_set, count_seen, count_set, row_count-meant, rows_of-read, same_forms, suits_meant, with_rows-set}
 use Rattle.roll_core.proofs.Written.{new_fresh, statement_stores}
 

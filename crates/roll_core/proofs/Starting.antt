@@ -1,19 +1,18 @@
 -- START leaves stored rows that mean what the machine leaves.
-use Rattle.roll_core.proofs.Words.{◌≡◌, ◌∙◌, ℕ, List, [], ◌∷◌, Bool, true, false, Option, Some, None, Result, Ok, Err, inl, inr, map, ap, refl, sym, subst, if◌then◌else◌, AllByRecursion, Each}
-use Rattle.roll_core.proofs.Words.{map-map, option_map_or, option_or, row_fits, and_then_ok, either_none, and_then, Value, Lens, Kind, PlanFault, Refusal, Unfinished, Migration, Plan, IsSchema, Joins}
-use Rattle.roll_core.proofs.Words.{has_mark, plan_of, table_numbered, Kept, Stop, Because, NoMemory, Answers, guarded, without, shape_of, begun_row, Mode, Calm, Both, State, CommandOutcome, Done}
-use Rattle.roll_core.proofs.Words.{Started, active, machine_begun, may_not_start, planned, start_planned, start_read, started, steps_left, taken, too_heavy, unplanned, unrun, HalfStands, IsState}
-use Rattle.roll_core.proofs.Words.{RowsStand, StepsStand, TablesStand, may_lose, Shared, lens_among, table_on, Migrates, Old, Pair, BeginningLeaves, BegunRowsHold, IsPair, IsBegunRow, IsPairedRow}
-use Rattle.roll_core.proofs.Words.{new_half, new_view, Form, Own, Paired, Former, meant, AreKept, AreRun, Goes, StartStores, begun_form, begun_frame, begun_table, startable, stepped_row, HasFormer}
-use Rattle.roll_core.proofs.Words.{IsStoredRow, IsStoredTable, StoredRow, Stored, StoredTable, form_in, kept, lost_columns_by, over_pair, pair_over, table_meant, Below}
-use Rattle.roll_core.proofs.Words.kind
+use Rattle.roll_core.proofs.Words.{begun_parts, ◌≡◌, ◌∙◌, ℕ, List, [], ◌∷◌, Bool, true, false, Option, Some, None, Result, Ok, Err, inl, inr, map, ap, refl, sym, subst, if◌then◌else◌, AllByRecursion}
+use Rattle.roll_core.proofs.Words.{Each, map-map, option_map_or, option_or, row_fits, and_then_ok, either_none, and_then, Value, Lens, Refusal, Migration, Plan, IsSchema, Joins, has_mark}
+use Rattle.roll_core.proofs.Words.{table_numbered, Kept, Stop, Because, NoMemory, Answers, guarded, without, shape_of, begun_row, Mode, Calm, Both, State, CommandOutcome, Done, Started, active}
+use Rattle.roll_core.proofs.Words.{machine_begun, may_not_start, planned, start_planned, start_read, started, steps_left, taken, too_heavy, unrun, HalfStands, IsState, RowsStand, StepsStand}
+use Rattle.roll_core.proofs.Words.{TablesStand, may_lose, Shared, lens_among, table_on, Old, Pair, BeginningLeaves, BegunRowsHold, IsPair, IsBegunRow, IsPairedRow, new_half, new_view, Form, Own}
+use Rattle.roll_core.proofs.Words.{Paired, Former, meant, AreKept, AreRun, Goes, begun_form, begun_frame, begun_table, startable, stepped_row, HasFormer, IsStoredRow, IsStoredTable, StoredRow, Stored}
+use Rattle.roll_core.proofs.Words.{StoredTable, form_in, kept, lost_columns_by, over_pair, pair_over, table_meant, Below}
 use Rattle.roll_core.proofs.Words.reply_of
 use Rattle.trigger_pair.specs.Stored.{begun}
 use Rattle.roll_core.proofs.Outcomes.{err_by, guarded_ok, without_ok}
 use Rattle.roll_core.proofs.Stepped.{StepsTo, rows_next}
 use Rattle.roll_core.proofs.Tables.{each_all, each_mapped, none_lost}
-use Rattle.roll_core.proofs.Tidying.{no_form, same_parts}
-use Rattle.roll_core.proofs.Pairing.{joined_both, joined_pair, shared_among, shared_parts}
+use Rattle.roll_core.proofs.Tidying.{no_form}
+use Rattle.roll_core.proofs.Runs.{joined_both, joined_pair, shared_among, shared_parts}
 
 -- ---- one row
 
@@ -122,36 +121,15 @@ tables_stored law frame name former all plan new b tables h = each_mapped (begun
 
 -- ---- START
 
-no_steps : (s : State) (by : Kind) → s.kind ≡ by → steps_left s ≡ None → s.kind ≡ kind.Nothing
-no_steps s kind.Nothing k h = k
-no_steps s kind.Complete k h = let some : steps_left s ≡ Some (Unfinished kind.Complete) = rw k refl in cc
-no_steps s kind.Rollback k h = let some : steps_left s ≡ Some (Unfinished kind.Rollback) = rw k refl in cc
-
 none_active : (mode : Mode) → active mode ≡ None → mode ≡ Calm
 none_active Calm h = refl
 none_active (Both name schema fates) h = cc
 
--- No migration is active, and no step is left.
-record IsIdle (s : State) : Type 0 where
-  calm : s.mode ≡ Calm
-  kind : s.kind ≡ kind.Nothing
-
-is_idle : (s : State) (m : Migration) → may_not_start s m ≡ None → IsIdle s
-is_idle s m h =
+is_calm : (s : State) (m : Migration) → may_not_start s m ≡ None → s.mode ≡ Calm
+is_calm s m h =
     let ops = either_none (unrun 0 m.operations) (option_or (steps_left s) (option_or (active s.mode) (taken s m.name))) h in
     let steps = either_none (steps_left s) (option_or (active s.mode) (taken s m.name)) ops.1 in
-    record { calm = none_active s.mode (either_none (active s.mode) (taken s m.name) steps.1).0; kind = no_steps s s.kind refl steps.0 }
-
-abbrev found_plan : Result Plan PlanFault → Result Plan Refusal
-found_plan (Ok plan) = Ok plan
-found_plan (Err fault) = Err (unplanned fault)
-
-planned_is : (s : State) (m : Migration) (plan : Plan) → planned s m ≡ Ok plan → plan_of s.schema s.next_table m ≡ Ok plan
-planned_is s m plan h = by_plan (plan_of s.schema s.next_table m) h
-  where
-    by_plan : (r : Result Plan PlanFault) → found_plan r ≡ Ok plan → r ≡ Ok plan
-    by_plan (Ok p) h = cc
-    by_plan (Err fault) h = cc
+    none_active s.mode (either_none (active s.mode) (taken s m.name) steps.1).0
 
 -- What START leaves.
 pub record IsStarted (frame : State) (former : Option Former) (tables : List StoredTable) (name : List ℕ) (plan : Plan) : Type 0 where
@@ -166,14 +144,12 @@ pub is_started : Below → (frame : State) (former : Option Former) (tables : Li
     → may_not_start (meant frame tables) m ≡ None → planned (meant frame tables) m ≡ Ok plan → IsStarted frame former tables m.name plan
 is_started law frame former tables m plan stands k may is =
     let s = meant frame tables in
-    let idle = is_idle s m may in
-    let left : frame.left ≡ 0 = subst (λ by. StepsStand by s.left) idle.kind stands.steps in
-    let none = stands.lost (ap (λ by. may_lose by s.left) idle.kind) in
-    let made = planned_is s m plan is in
-    let schema = stands.version.schema_stands in
-    let b : Begins frame plan = record { old = schema; new = law.schemas frame.schema frame.next_table m plan schema made; joined = law.join frame.schema frame.next_table m plan schema made; nothing_lost = none.columns } in
+    let newer = (law.starts s m plan stands may is).mode in
+    let left : frame.left ≡ 0 = subst (λ by. StepsStand by s.left) newer.no_steps stands.steps in
+    let none = stands.lost (ap (λ by. may_lose by s.left) newer.no_steps) in
+    let b : Begins frame plan = record { old = stands.version.schema_stands; new = newer.version.schema_stands; joined = newer.joined; nothing_lost = none.columns } in
     let stored : Stored = record { frame = frame; former = former; tables = tables } in
-    let own = all_own s former frame stored tables (λ number. no_form former frame number idle.calm left) stands.tables k.tables in
+    let own = all_own s former frame stored tables (λ number. no_form former frame number (is_calm s m may) left) stands.tables k.tables in
     record {
       means = ap (λ (ts : List (ℕ × List Kept)). record (begun_frame frame m.name plan) { tables = ts }) (tables_mean law frame tables plan b tables own);
       kept = record { once = k.once; former = had_former frame m.name plan former k.former; tables = tables_stored law frame m.name former tables plan (map (begun_table frame plan) tables) b tables own };
@@ -181,7 +157,7 @@ is_started law frame former tables m plan stands k may is =
 
 -- ---- the whole
 
-startable_ok : (s : State) (m : Migration) (plan : Plan) → startable s m ≡ Ok plan → (may_not_start s m ≡ None) × (planned s m ≡ Ok plan) × (too_heavy s plan ≡ None)
+pub startable_ok : (s : State) (m : Migration) (plan : Plan) → startable s m ≡ Ok plan → (may_not_start s m ≡ None) × (planned s m ≡ Ok plan) × (too_heavy s plan ≡ None)
 startable_ok s m plan h =
     let may = guarded_ok (may_not_start s m) (and_then (planned s m) (λ plan. without (too_heavy s plan) plan)) plan h in
     let made = and_then_ok (planned s m) (λ plan. without (too_heavy s plan) plan) plan may.1 in
@@ -206,27 +182,12 @@ pub stops : (stored : Stored) (outcome : CommandOutcome) (wanted : Result Plan R
 stops stored outcome wanted (Because refusal) h so = (so refusal h, refl)
 stops stored outcome wanted NoMemory h so = refl
 
--- What a call of START leaves.
-pub record Leaves (frame : State) (tables : List StoredTable) (m : Migration) (plan : Plan) (new : State) (new_tables : List StoredTable) : Type 0 where
-  pub by : startable (meant frame tables) m ≡ Ok plan
-  pub begun : new ≡ begun_frame frame m.name plan
-  pub stored : new_tables ≡ map (begun_table frame plan) tables
-
-pub start_goes : Below → (frame : State) (tables : List StoredTable) (m : Migration) (plan : Plan) (new : State) (new_tables : List StoredTable) (name : List ℕ) → AreRun frame tables → Leaves frame tables m plan new new_tables → name ≡ m.name → (former : Option Former)
-    → Goes (record { frame = frame; former = former; tables = tables }) (start_read (meant frame tables) m) (Ok (reply_of.Start name)) (record { frame = new; former = former; tables = new_tables })
-start_goes law frame tables m plan new new_tables name run l n former =
-    let stored = run.1 in
-    let may = startable_ok (meant frame tables) m plan l.by in
-    let is = is_started law frame run.0 tables m plan stored.stands (record { once = stored.once; former = stored.former; tables = stored.tables }) may.0 may.1 in
-    (began (meant frame tables) m plan, start_is (meant frame tables) m plan l.by, ap reply_of.Start n, ap (λ fr. meant fr new_tables) l.begun ∙ ap (meant (begun_frame frame m.name plan)) l.stored ∙ is.means)
-
-pub start_keeps : Below → (frame : State) (tables : List StoredTable) (m : Migration) (plan : Plan) (new : State) (new_tables : List StoredTable) → AreRun frame tables → Leaves frame tables m plan new new_tables → (former : Option Former)
-    → AreKept (record { frame = frame; former = former; tables = tables }) → AreKept (record { frame = new; former = former; tables = new_tables })
-start_keeps law frame tables m plan new new_tables run l former k =
-    let may = startable_ok (meant frame tables) m plan l.by in
-    let is = is_started law frame former tables m plan run.1.stands k may.0 may.1 in
-    subst (λ fr. AreKept (record { frame = fr; former = former; tables = new_tables })) (sym l.begun) (subst (λ (ts : List StoredTable). AreKept (record { frame = begun_frame frame m.name plan; former = former; tables = ts })) (sym l.stored) is.kept)
-
-pub start_stores : (frame : State) (tables : List StoredTable) (m : Migration) (plan : Plan) (new : State) (new_tables : List StoredTable) → Leaves frame tables m plan new new_tables → (former : Option Former) → StartStores (record { frame = frame; former = former; tables = tables }) (Migrates m) (record { frame = new; former = former; tables = new_tables })
-start_stores frame tables m plan new new_tables l former =
-    (plan, (startable_ok (meant frame tables) m plan l.by).1, same_parts new (begun_frame frame m.name plan) former former new_tables (map (begun_table frame plan) tables) l.begun refl l.stored)
+-- An accepted START goes as the machine's does, and keeps what an engine's parts are, whatever is kept of a version that is gone.
+pub starts : Below → (frame : State) (former : Option Former) (tables : List StoredTable) (m : Migration) (plan : Plan) → AreRun frame tables → startable (meant frame tables) m ≡ Ok plan
+    → Goes (record { frame = frame; former = former; tables = tables }) (start_read (meant frame tables) m) (Ok (reply_of.Start m.name)) (begun_parts m.name plan (record { frame = frame; former = former; tables = tables }))
+    × (AreKept (record { frame = frame; former = former; tables = tables }) → AreKept (begun_parts m.name plan (record { frame = frame; former = former; tables = tables })))
+starts law frame former tables m plan run by =
+    let s = meant frame tables in
+    let may = startable_ok s m plan by in
+    let kept : AreKept (record { frame = frame; former = run.0; tables = tables }) = record { once = run.1.once; former = run.1.former; tables = run.1.tables } in
+    ((began s m plan, start_is s m plan by, refl, (is_started law frame run.0 tables m plan run.1.stands kept may.0 may.1).means), λ k. (is_started law frame former tables m plan run.1.stands k may.0 may.1).kept)

@@ -1,10 +1,10 @@
 -- Stored tables, and the tables of the state that they mean.
-use Rattle.roll_core.proofs.Words.{◌||◌, map-set, slice_get-get_or, slice_get-map, SameForms, FormSuits, Own, Paired, Left, Trimmed, Form, lost_columns_of, arith, Result, Ok, Err, OnErr, ◌+◌, ◌≡◌, ◌≤◌, ◌<◌}
-use Rattle.roll_core.proofs.Words.{◌==◌, ◌∙◌, ℕ, zero, suc, List, [], ◌∷◌, Bool, true, false, Option, Some, find, if◌then◌else◌, length, map, nat_eq, ap, refl, sym, subst, option_map, option_and_then}
-use Rattle.roll_core.proofs.Words.{le_of_eq, slice_get, slice_index_or, slice_set, sum_by, AllByRecursion, list_all, list_any, option_map_or, nat_tests, length-map, sum_by-cons, Change, both}
-use Rattle.roll_core.proofs.Words.{some_same, Table, table_numbered, Kept, Site, number_of, Mode, Calm, Both, State, numbers_of, IsState, ModeStands, NumbersAscend, newer_schema, row_count, rows_of}
-use Rattle.roll_core.proofs.Words.{table_on, with_rows, New, Old, Side, OwnTable, IsSite, Runs, meant, numbers_in, stored_count, changed, with_changes, own_count, seen, StoredTable, kept, rows_meant}
-use Rattle.roll_core.proofs.Words.{table_meant}
+use Rattle.roll_core.proofs.Words.{◌||◌, map-set, slice_get-get_or, slice_get-map, SameForms, FormSuits, Own, Paired, Left, Trimmed, Form, lost_columns_of, arith, Result, Ok, Err, OnErr, ◌+◌, ◌≡◌}
+use Rattle.roll_core.proofs.Words.{◌≤◌, ◌<◌, ◌==◌, ◌∙◌, ℕ, zero, suc, List, [], ◌∷◌, Bool, true, false, Option, Some, find, if◌then◌else◌, length, map, nat_eq, ap, refl, sym, subst, option_map}
+use Rattle.roll_core.proofs.Words.{option_and_then, le_of_eq, slice_get, slice_index_or, slice_set, sum_by, AllByRecursion, list_all, list_any, option_map_or, nat_tests, length-map, sum_by-cons}
+use Rattle.roll_core.proofs.Words.{Change, both, some_same, Table, table_numbered, Kept, Site, number_of, Mode, Calm, Both, State, numbers_of, IsState, ModeStands, NumbersAscend, newer_schema}
+use Rattle.roll_core.proofs.Words.{row_count, rows_of, table_on, with_rows, New, Old, Side, OwnTable, IsSite, Runs, meant, numbers_in, stored_count, changed, with_changes, own_count, seen}
+use Rattle.roll_core.proofs.Words.{StoredTable, kept, rows_meant, table_meant}
 use Rattle.roll_core.proofs.Words.finite
 
 -- ---- elements

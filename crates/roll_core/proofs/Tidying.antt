@@ -1,8 +1,8 @@
 -- The second and the third step of completing leave stored rows that mean what the machine leaves.
-use Rattle.roll_core.proofs.Words.{arith, ◌≡◌, ◌∙◌, ℕ, List, [], ◌∷◌, Bool, true, false, ◌==◌, Option, Some, None, Ok, inl, inr, ◌⊎◌, map, ap, refl, sym, subst, if◌then◌else◌, Each, map-id, map-map}
-use Rattle.roll_core.proofs.Words.{Value, Kept, Mode, Calm, Both, State, Complete, complete, stepped, table_without_loss, tidied, without_loss, ModeStands, StepsStand, Shared, Pair, IsPair, Form, Own}
-use Rattle.roll_core.proofs.Words.{Left, Trimmed, Former, meant, AreKept, Goes, stepped_row, tidied_form, tidied_frame, tidied_former, tidied_number, tidied_parts, tidied_table, HasFormer, IsStored}
-use Rattle.roll_core.proofs.Words.{IsStoredRow, IsStoredTable, Stored, StoredRow, StoredTable, form_in, former_pair, kept, lost_columns_by, over_pair, pair_over, rows_meant, table_meant, Below}
+use Rattle.roll_core.proofs.Words.{meaning, arith, ◌≡◌, ◌∙◌, ℕ, List, [], ◌∷◌, Bool, true, false, ◌==◌, Option, Some, None, Ok, inl, inr, ◌⊎◌, map, ap, refl, sym, subst, if◌then◌else◌, Each, map-id}
+use Rattle.roll_core.proofs.Words.{map-map, Value, Kept, Mode, Calm, Both, State, Complete, complete, stepped, table_without_loss, tidied, without_loss, ModeStands, StepsStand, Shared, Pair, IsPair}
+use Rattle.roll_core.proofs.Words.{Form, Own, Left, Trimmed, Former, meant, AreKept, Goes, stepped_row, tidied_form, tidied_number, tidied_parts, tidied_table, HasFormer, IsStored, IsStoredRow}
+use Rattle.roll_core.proofs.Words.{IsStoredTable, Stored, StoredRow, StoredTable, form_in, former_pair, kept, lost_columns_by, over_pair, pair_over, rows_meant, table_meant, Below}
 use Rattle.roll_core.proofs.Words.kind
 use Rattle.roll_core.proofs.Runs.{former_by}
 use Rattle.roll_core.proofs.Stepped.{StepsTo, rows_next}
@@ -152,25 +152,12 @@ after_by false second third = refl
 pub same_parts : (f g : State) (a b : Option Former) (ts us : List StoredTable) → f ≡ g → a ≡ b → ts ≡ us → ◌≡◌ {A = Stored} (record { frame = f; former = a; tables = ts }) (record { frame = g; former = b; tables = us })
 same_parts f g a b ts us p q r = rw (p, q, r) refl
 
--- What a call of a step leaves.
-pub record Tidies (frame : State) (former : Option Former) (tables : List StoredTable) (new : Stored) : Type 0 where
-  pub is_frame : new.frame ≡ tidied_frame frame
-  pub is_former : new.former ≡ tidied_former frame former
-  pub is_tables : new.tables ≡ map tidied_table tables
-
-pub tidied_goes : Below → (frame : State) (former : Option Former) (tables : List StoredTable) (new : Stored) (number : ℕ) → IsStored (record { frame = frame; former = former; tables = tables }) → frame.kind ≡ kind.Complete → Tidies frame former tables new → number ≡ tidied_number frame
-    → Goes (record { frame = frame; former = former; tables = tables }) (complete (meant frame tables)) (Ok (Complete number)) new
-tidied_goes law frame former tables new number stored k t n =
-    let s = meant frame tables in
-    let is = is_tidied law frame former tables stored k in
+-- The second step, or the third, goes as the machine's does.
+pub tidies : Below → (stored : Stored) → IsStored stored → stored.frame.kind ≡ kind.Complete
+    → Goes stored (complete (meaning stored)) (Ok (Complete (tidied_number stored.frame))) (tidied_parts stored) × AreKept (tidied_parts stored)
+tidies law stored is k =
+    let s = meaning stored in
+    let next = is_tidied law stored.frame stored.former stored.tables is k in
     let second = record s { left = 1; tables = map table_without_loss s.tables; lost_columns = [] } in
     let third = record s { left = 0; kind = kind.Nothing } in
-    (tidied s, tidied_is s k, ap Complete n ∙ reply_by (frame.left == 2) second third, ap (λ fr. meant fr new.tables) t.is_frame ∙ ap (meant (tidied_frame frame)) t.is_tables ∙ is.means ∙ after_by (frame.left == 2) second third)
-
-pub tidied_stored : (frame : State) (former : Option Former) (tables : List StoredTable) (new : Stored) → Tidies frame former tables new → new ≡ tidied_parts (record { frame = frame; former = former; tables = tables })
-tidied_stored frame former tables new t = same_parts new.frame (tidied_frame frame) new.former (tidied_former frame former) new.tables (map tidied_table tables) t.is_frame t.is_former t.is_tables
-
-pub tidied_keeps : Below → (frame : State) (former : Option Former) (tables : List StoredTable) (new : Stored) → IsStored (record { frame = frame; former = former; tables = tables }) → frame.kind ≡ kind.Complete → Tidies frame former tables new → AreKept new
-tidied_keeps law frame former tables new stored k t =
-    let is = is_tidied law frame former tables stored k in
-    subst AreKept (sym (tidied_stored frame former tables new t)) is.kept
+    ((tidied s, tidied_is s k, reply_by (stored.frame.left == 2) second third, next.means ∙ after_by (stored.frame.left == 2) second third), next.kept)

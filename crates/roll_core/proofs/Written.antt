@@ -4,12 +4,11 @@ use Rattle.roll_core.proofs.Words.{changes, new_keys_cause, new_row, rows_put, S
 use Rattle.roll_core.proofs.Words.{Form, FormSuits, IsStatement, IsStoredRow, kept, lost_columns_by, Below}
 use Rattle.roll_core.proofs.Words.finite
 use Rattle.roll_core.proofs.Words.job
-use Rattle.roll_core.proofs.Changed.{Stores}
+use Rattle.roll_core.proofs.Rows.{Stores, has_key-stored}
 use Rattle.roll_core.proofs.Counted.{fresh, rows_are, rows_put-all, Fresh}
 use Rattle.roll_core.proofs.Fitting.{Weighs, WeighsOver, new_weighs, older_weigh}
 use Rattle.roll_core.proofs.Jobs.{job_stores, stored_agree, stored_sites}
 use Rattle.roll_core.proofs.Made.{Placed}
-use Rattle.roll_core.proofs.Rows.{has_key-stored}
 
 none_there : {X : Type 0} (o : Option X) → is_some o ≡ false → o ≡ None
 none_there None h = refl

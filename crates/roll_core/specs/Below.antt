@@ -1,15 +1,15 @@
 -- The laws of the layers below that the engine's promises rest on.
-use Rattle.mig_lens.specs.Laws.{PlannedLensesJoin, PlansKeepSchemas}
 use Rattle.row_rules.specs.InReach.{StandingShowKeys}
-use Rattle.machine.specs.Laws.{ChangesAgree, ChangesKeep, FillingStands, RowsOnSites, RowsStandBy, SharedStands, ShowsStand, WritesStand}
+use Rattle.machine.specs.Laws.{ChangesAgree, ChangesKeep, FilledRowsHaveHalves, FillingStands, RowsOnSites, RowsStandBy, SharedStands, ShowsStand, StartsStand, TablesStay, WritesStand}
 use Rattle.row_store.specs.Laws.{RemovedIsLeftOut}
 use Rattle.trigger_pair.specs.Laws.{BeginningLeaves, BegunRowsHold, FilledRowsAreLong, PairsAreLong, StoredRowsHold, UnfilledRowsAreBegun}
 use Rattle.phase_steps.specs.Laws.{LeftRowsAreFilled, LeftRowsKeep, LeftRowsShow, TrimmingKeepsView, TrimmingLeavesTrimmed}
 
 pub record Below : Type 0 where
-  -- plans
-  pub join : PlannedLensesJoin
-  pub schemas : PlansKeepSchemas
+  -- migrations
+  pub starts : StartsStand
+  pub stay : TablesStay
+  pub halves : FilledRowsHaveHalves
   -- sites, and what is done to their rows
   pub writes : WritesStand
   pub shows : ShowsStand

@@ -5,8 +5,7 @@ ghost use Rattle.roll_core.specs.Below.{Below};
 pub fn laws_below()
     ensures { Below }
 {
-    mig_lens::laws::planned_lenses_join();
-    mig_lens::laws::planned_schemas_are_well_formed();
+    machine::laws::tables_stand();
     machine::laws::sites_stand();
     machine::laws::carried_columns_agree();
     row_rules::reach_laws::standing_rows_show_their_keys();

@@ -1,6 +1,6 @@
 use Rattle.roll_core.proofs.Words.{◌≡◌, ◌∙◌, None, ap, map, sym, subst, guarded, CommandOutcome, as_outcome, first_of, least_batch, least_fill, may_not_fill, unfilled_tables, batch_at, Comes, meant}
 use Rattle.roll_core.proofs.Words.{seen}
-use Rattle.roll_core.proofs.Unfilled.{first_table}
+use Rattle.roll_core.proofs.Missing.{first_table}
 use Rattle.roll_core.proofs.batch.least_fill.Goals as goal
 
 pub returns-clause-answers : goal.returns-clause-answers

@@ -1,5 +1,5 @@
 use Rattle.roll_core.proofs.Words.{arith, length, ap, put_all}
-use Rattle.roll_core.proofs.Changed.{step_end, step_room}
+use Rattle.roll_core.proofs.Rows.{step_end, step_room}
 use Rattle.roll_core.proofs.changing.put_all.Goals as goal
 
 pub put_stored-requires : goal.put_stored-requires

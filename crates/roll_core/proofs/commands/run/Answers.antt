@@ -1,5 +1,5 @@
 use Rattle.roll_core.proofs.Words.{◌≡◌, false, true, leaves_all, parts, Stored}
-use Rattle.roll_core.proofs.Commanding.{done_step, whole}
+use Rattle.roll_core.proofs.Steps.{done_step, whole}
 use Rattle.roll_core.proofs.commands.run.Goals as goal
 
 pub returns-in-Ok : goal.returns-in-Ok

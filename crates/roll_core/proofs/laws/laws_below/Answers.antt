@@ -2,8 +2,9 @@ use Rattle.roll_core.proofs.laws.laws_below.Goals as goal
 
 pub returns : goal.returns
 returns c = record {
-  join = c.planned_lenses_join.ensures.join;
-  schemas = c.planned_schemas_are_well_formed.ensures;
+  starts = c.tables_stand.ensures.starts;
+  stay = c.tables_stand.ensures.stay;
+  halves = c.tables_stand.ensures.filled;
   writes = c.sites_stand.ensures.writes;
   shows = c.sites_stand.ensures.shows;
   shared = c.sites_stand.ensures.shared;

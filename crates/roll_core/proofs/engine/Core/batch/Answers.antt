@@ -1,6 +1,6 @@
 use Rattle.roll_core.proofs.Words.{◌≡◌, ◌∙◌, false, length, map, refl, sym, ap, subst, take_at, Fill, goes_on_filling, LaneStep, reply_of, parts, seen, IsStored, Stored, meaning}
 use Rattle.roll_core.proofs.Runs.{runs_of}
-use Rattle.roll_core.proofs.Said.{lane_step, moved, still_stored}
+use Rattle.roll_core.proofs.Steps.{lane_step, moved, still_stored}
 use Rattle.roll_core.proofs.engine.Core.batch.Goals as goal
 
 pub least_fill-requires : goal.least_fill-requires

@@ -1,5 +1,5 @@
 use Rattle.roll_core.proofs.Words.{◌≡◌, ◌∙◌, None, ap, refl, sym, subst, first_stored, parts, IsStored, meaning}
-use Rattle.roll_core.proofs.First.{first_is, first_means, first_stands}
+use Rattle.roll_core.proofs.Steps.{first_is, first_means, first_stands}
 use Rattle.roll_core.proofs.engine.Core.fixed.Goals as goal
 
 pub invariant_of-result : goal.invariant_of-result

@@ -1,6 +1,6 @@
 use Rattle.roll_core.proofs.Words.{◌≡◌, ◌∙◌, length, map, refl, sym, ap, subst, take_at, leaves_all, Said, Read, Step, reply_of, parts, seen, IsStored, Stored, meaning}
 use Rattle.roll_core.proofs.Runs.{runs_of}
-use Rattle.roll_core.proofs.Said.{lane_step, moved, said_looks, still_stored}
+use Rattle.roll_core.proofs.Steps.{lane_step, moved, said_looks, still_stored}
 use Rattle.roll_core.proofs.engine.Core.statement.Goals as goal
 
 pub answer-requires : goal.answer-requires

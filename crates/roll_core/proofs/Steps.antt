@@ -1,0 +1,126 @@
+-- The engine's calls are steps of the machine, and leave what an engine stores; so does its beginning.
+use Rattle.roll_core.proofs.Words.{◌≡◌, ◌∙◌, ℕ, List, [], ◌∷◌, true, Option, Result, Ok, Err, inl, inr, map, ap, refl, sym, subst, Each, Stop, Because, NoMemory, Event, Reply, State, Nothing, Outcome}
+use Rattle.roll_core.proofs.Words.{after_of, reply_to, wrote_by, StepsKeepLaws, StepsKeepStates, leaves_all, lost_columns_of, LaneStep, Step, may_want, outcome_of, Form, Former, Comes, RowsStored}
+use Rattle.roll_core.proofs.Words.{SameForms, meant, reply_of, IsStored, IsStoredTable, Stored, StoredTable, form_in, lost_columns_by, Refusal, Refused, CommandOutcome, Done, as_outcome, complete}
+use Rattle.roll_core.proofs.Words.{start, ComesTo, Cmd, Start, command_outcome, event_of, AreKept, Goes, meaning, nil_from_length, ◌++◌, None, int_cmp, Value, RunsReachLawful, RunsReachStates}
+use Rattle.roll_core.proofs.Words.{beginning, Rows, Own, first_stored, parts, seen}
+use Rattle.roll_core.specs.declared.commands.Cmd.TheVariants.{Complete}
+use Rattle.roll_core.proofs.Words.finite
+use Rattle.roll_core.proofs.Words.store
+use Rattle.roll_core.specs.declared.store.StoredTable.{StoredTable}
+
+-- ---- the step
+
+pub moved : (R : State → Reply → State → Type 0) (s s2 : State) (r r2 : Reply) (t t2 : State) → s ≡ s2 → r ≡ r2 → t ≡ t2 → R s r t → R s2 r2 t2
+moved R s s2 r r2 t t2 a b c h = subst (R s2 r2) c (subst (λ x. R s2 x t) b (subst (λ x. R x r t) a h))
+
+-- An event that is answered so is a step as one lane takes it.
+pub lane_step : (event : Event) → may_want event ≡ true → (frame : State) (old new : List StoredTable) (result : Result Reply (Stop Reply))
+    → Comes frame old (outcome_of (meant frame old) event) result new → LaneStep (meant frame old) event (reply_of result) (meant frame new)
+lane_step event may frame old new (Ok reply) c =
+    let s = meant frame old in
+    let o = sym c.1 in
+    (wrote_by (outcome_of s event), inl (c.2 ∙ ap reply_to o, refl, c.3 ∙ ap (after_of s) o))
+lane_step event may frame old new (Err (Because reply)) c =
+    let s = meant frame old in
+    let o = sym c.0 in
+    (wrote_by (outcome_of s event), inl (ap reply_to o, refl, ap (meant frame) c.1 ∙ ap (after_of s) o))
+lane_step event may frame old new (Err NoMemory) c = (Nothing, inr (may, (refl, refl, ap (meant frame) c)))
+
+pub said_looks : (frame : State) (old new : List StoredTable) (outcome : Outcome) (result : Result Reply (Stop Reply)) → Comes frame old outcome result new → leaves_all (reply_of result) ≡ true → new ≡ old
+said_looks frame old new outcome (Ok reply) c h = c.4 h
+said_looks frame old new outcome (Err (Because reply)) c h = c.1
+said_looks frame old new outcome (Err NoMemory) c h = c
+
+-- ---- what is stored afterwards
+
+cons_same : {X : Type 0} (x y : X) (xs ys : List X) → ◌≡◌ {A = List X} (x ∷ xs) (y ∷ ys) → (x ≡ y) × (xs ≡ ys)
+cons_same x y xs ys e = (cc, cc)
+
+pub tables_stored : (old_stored new_stored : Stored) → new_stored.former ≡ old_stored.former → new_stored.frame ≡ old_stored.frame → (old new : List StoredTable) → SameForms old new → Each (IsStoredTable old_stored) old → Each RowsStored new → Each (IsStoredTable new_stored) new
+tables_stored a b f g [] [] s h r = tt
+tables_stored a b f g [] (n ∷ new) s h r = cc
+tables_stored a b f g (o ∷ old) [] s h r = cc
+tables_stored a b f g (o ∷ old) (n ∷ new) s h r =
+    let same = cons_same {X = ℕ × Form} (n.number, n.form) (o.number, o.form) (map {B = ℕ × Form} (λ table. (table.number, table.form)) new) (map {B = ℕ × Form} (λ table. (table.number, table.form)) old) s in
+    let number : n.number ≡ o.number = ap (λ (p : ℕ × Form). p.0) same.0 in
+    let form : n.form ≡ o.form = ap (λ (p : ℕ × Form). p.1) same.0 in (
+      record {
+        form = form ∙ h.0.form ∙ ap (λ k. form_in a.former a.frame k) (sym number) ∙ ap (λ (fo : Option Former). form_in fo a.frame n.number) (sym f) ∙ ap (λ (fr : State). form_in b.former fr n.number) (sym g);
+        lost = ap (λ (fr : State). lost_columns_of fr n.number) g ∙ ap (lost_columns_of a.frame) number ∙ h.0.lost ∙ ap lost_columns_by (sym form);
+        rows = r.0;
+      },
+      tables_stored a b f g old new same.1 h.1 r.1,
+    )
+
+-- After a step that leaves the forms it is what an engine stores.
+pub still_stored : StepsKeepStates → StepsKeepLaws → (frame : State) (former : Option Former) (old new : List StoredTable) (event : Event) (reply : Reply)
+    → IsStored (record { frame = frame; former = former; tables = old }) → Step (meant frame old) event reply (meant frame new) → SameForms old new → Each RowsStored new
+    → IsStored (record { frame = frame; former = former; tables = new })
+still_stored states laws frame former old new event reply is step f r = record {
+  once = is.once;
+  stands = states (meant frame old) event reply (meant frame new) step is.stands;
+  lawful = laws (meant frame old) event reply (meant frame new) step is.stands is.lawful;
+  former = is.former;
+  tables = tables_stored (record { frame = frame; former = former; tables = old }) (record { frame = frame; former = former; tables = new }) refl refl old new f is.tables r;
+}
+
+-- ---- steps
+
+accepted : (s t : State) (outcome : CommandOutcome) (reply : Reply) (done : Done) → outcome ≡ Ok done → reply ≡ done.reply → t ≡ done.after → ComesTo s (as_outcome outcome) reply done.wrote t
+accepted s t outcome reply done is r a = subst (λ o. ComesTo s (as_outcome o) reply done.wrote t) (sym is) (r, refl, a)
+
+refused : (s t : State) (outcome : CommandOutcome) (refusal : Refusal) → outcome ≡ Err refusal → t ≡ s → ComesTo s (as_outcome outcome) (Refused refusal) Nothing t
+refused s t outcome refusal is same = subst (λ o. ComesTo s (as_outcome o) (Refused refusal) Nothing t) (sym is) (refl, refl, same)
+
+pub done_step : (old new : Stored) (cmd : Cmd) (reply : Reply) → Goes old (command_outcome (meaning old) cmd) (Ok reply) new → Step (meaning old) (event_of cmd) reply (meaning new)
+done_step old new (Start asked) reply g = (g.0.wrote, inl (accepted (meaning old) (meaning new) (start (meaning old) asked) reply g.0 g.1 g.2 g.3))
+done_step old new Complete reply g = (g.0.wrote, inl (accepted (meaning old) (meaning new) (complete (meaning old)) reply g.0 g.1 g.2 g.3))
+
+pub refused_step : (old new : Stored) (cmd : Cmd) (refusal : Refusal) → Goes old (command_outcome (meaning old) cmd) (Err (Because refusal)) new → Step (meaning old) (event_of cmd) (Refused refusal) (meaning new)
+refused_step old new (Start asked) refusal g = (Nothing, inl (refused (meaning old) (meaning new) (start (meaning old) asked) refusal g.0 (ap meaning g.1)))
+refused_step old new Complete refusal g = (Nothing, inl (refused (meaning old) (meaning new) (complete (meaning old)) refusal g.0 (ap meaning g.1)))
+
+-- ---- what an engine stores
+
+pub record CommandsKeep : Type 0 where
+  pub states : StepsKeepStates
+  pub laws : StepsKeepLaws
+
+pub whole : CommandsKeep → (old new : Stored) (cmd : Cmd) (reply : Reply) → IsStored old → AreKept new → Step (meaning old) (event_of cmd) reply (meaning new) → IsStored new
+whole law old new cmd reply stored kept step = record {
+  once = kept.once;
+  stands = law.states (meaning old) (event_of cmd) reply (meaning new) step stored.stands;
+  lawful = law.laws (meaning old) (event_of cmd) reply (meaning new) step stored.stands stored.lawful;
+  former = kept.former;
+  tables = kept.tables;
+}
+
+pub still_whole : (old new : Stored) → IsStored old → new ≡ old → IsStored new
+still_whole old new stored same = subst IsStored (sym same) stored
+
+no_rows : (rows : Rows) → rows ≡ finite.empty → finite.entries rows ≡ []
+no_rows rows e = ap finite.entries e ∙ nil_from_length (finite.entries {X = List Value} {R = int_cmp} finite.empty) (sym (finite.len-entries finite.empty) ∙ finite.len-empty int_cmp (List Value))
+
+first_seen : (table : StoredTable) → table.number ≡ 1 → table.form ≡ Own → table.rows.rows ≡ finite.empty → ◌≡◌ {A = store.StoredTable} (seen table) (record { number = 1; form = Own; rows = [] })
+first_seen table n f r = rw (n, f, no_rows table.rows.rows r) refl
+
+pub first_is : (frame s : State) (items before : List StoredTable) (table : StoredTable) → s ≡ beginning → frame ≡ record s { tables = [] } → before ≡ [] → items ≡ before ++ (table ∷ []) → table.number ≡ 1 → table.form ≡ Own → table.rows.rows ≡ finite.empty → parts frame None items ≡ first_stored
+first_is frame s items before table b f e i n w r =
+    let is : frame ≡ record beginning { tables = [] } = f ∙ ap (λ (s : State). record s { tables = [] }) b in
+    let all : items ≡ table ∷ [] = i ∙ ap (λ (ts : List StoredTable). ts ++ (table ∷ [])) e in
+    ap (λ (fr : State). parts fr None items) is ∙ ap (parts (record beginning { tables = [] }) None) all
+    ∙ ap (λ (t : store.StoredTable). record { frame = record beginning { tables = [] }; former = None; tables = t ∷ [] }) (first_seen table n w r)
+
+pub first_means : meaning first_stored ≡ beginning
+first_means = refl
+
+pub first_stands : RunsReachStates → RunsReachLawful → IsStored first_stored
+first_stands states laws =
+    record {
+      once = refl;
+      stands = states 1 [] beginning refl;
+      lawful = laws 1 [] beginning refl;
+      former = refl;
+      tables = (record { form = refl; lost = refl; rows = tt }, tt);
+    }
