@@ -1,8 +1,10 @@
 -- How many rows changes leave.
-use Rattle.roll_core.proofs.Words.{arith, ◌≡◌, ◌≤◌, ◌∙◌, ℕ, suc, ◌+◌, ◌-◌, ℤ, List, [], ◌∷◌, Bool, true, false, ◌||◌, Option, Some, None, Result, Ok, cond, is_some, nat_lt, length, map, filter, ap}
-use Rattle.roll_core.proofs.Words.{refl, sym, subst, int_cmp, int_eq, option_map, int_cmp_total, int_eq_equiv, Each, eq_by_cmp, nat_tests, and_then_ok, ok_same, Value, least, Cause, Change, Put}
-use Rattle.roll_core.proofs.Words.{Remove, Kept, has_key, is_taken, key_cause, keys_of, times, taken_key, put_each, rows_put, Table, Rows, Form, put_all, put_stored, stored_change}
+use Rattle.roll_core.proofs.Words.{arith, ◌≡◌, ◌≤◌, ◌∙◌, ℕ, suc, ◌+◌, ◌-◌, ℤ, List, [], ◌∷◌, Bool, true, false, ◌||◌, Some, None, Result, Ok, cond, is_some, nat_lt, length, map, filter, ap, refl, sym}
+use Rattle.roll_core.proofs.Words.{subst, int_cmp, int_eq, int_cmp_total, int_eq_equiv, Each, eq_by_cmp, nat_tests, and_then_ok, ok_same, Value, least, Cause, Change, Put, Remove, Kept, has_key}
+use Rattle.roll_core.proofs.Words.{is_taken, key_cause, keys_of, times, taken_key, put_each, rows_put, Table, Rows, Form, put_all, put_stored, stored_change}
 use Rattle.roll_core.proofs.Words.finite
+use Rattle.roll_core.proofs.Outcomes.{none_mapped}
+use Rattle.roll_core.proofs.Tables.{each_of}
 
 -- ---- rows that are put, row by row
 
@@ -33,30 +35,6 @@ neither : (a b : Bool) → (a || b) ≡ false → (a ≡ false) × (b ≡ false)
 neither true b h = cc
 neither false b h = (refl, h)
 
-no_cause : (table : Table) (o : Option ℤ) → option_map (taken_key table) o ≡ None → o ≡ None
-no_cause table None h = refl
-no_cause table (Some key) h = cc
-
--- No older row has the key of a new one, and no other new one has it.
-pub record Fresh (older new : List Kept) : Type 0 where
-  pub apart : Each (λ row. has_key row.key older ≡ false) new
-  pub once : Each (λ row. nat_lt 1 (times row.key new) ≡ false) new
-
-apart_of : (older all new : List Kept) → Each (λ row. is_taken older all row.key ≡ false) new → Each (λ row. has_key row.key older ≡ false) new
-apart_of older all [] h = tt
-apart_of older all (row ∷ new) h = ((neither (has_key row.key older) (nat_lt 1 (times row.key all)) h.0).0, apart_of older all new h.1)
-
-once_of : (older all new : List Kept) → Each (λ row. is_taken older all row.key ≡ false) new → Each (λ row. nat_lt 1 (times row.key all) ≡ false) new
-once_of older all [] h = tt
-once_of older all (row ∷ new) h = ((neither (has_key row.key older) (nat_lt 1 (times row.key all)) h.0).1, once_of older all new h.1)
-
-pub fresh : (table : Table) (older new : List Kept) → key_cause table older new ≡ None → Fresh older new
-fresh table older new h =
-    let none = none_pass (is_taken older new) new (least_none (filter (is_taken older new) (keys_of new)) (no_cause table (least (filter (is_taken older new) (keys_of new))) h)) in
-    record { apart = apart_of older new new none; once = once_of older new new none }
-
--- ---- no key twice
-
 abbrev pub Distinct : List Kept → Type 0
 Distinct [] = Unit {0}
 Distinct (row ∷ rows) = Each (λ other. int_eq row.key other.key ≡ false) rows × Distinct rows
@@ -82,27 +60,31 @@ fewer key row rows = by_test (int_eq key row.key)
     by_test true = omega arith
     by_test false = omega arith
 
-tail_once : (row : Kept) (rows new : List Kept) → Each (λ other. nat_lt 1 (times other.key (row ∷ rows)) ≡ false) new → Each (λ other. nat_lt 1 (times other.key rows) ≡ false) new
-tail_once row rows [] h = tt
-tail_once row rows (other ∷ new) h =
-    let less = fewer other.key row rows in
-    let few = h.0 in
-    let here : nat_lt 1 (times other.key rows) ≡ false = grind (arith, nat_tests) in
-    (here, tail_once row rows new h.1)
+tail_once : (row : Kept) (rows : List Kept) (other : Kept) → nat_lt 1 (times other.key (row ∷ rows)) ≡ false → nat_lt 1 (times other.key rows) ≡ false
+tail_once row rows other few = let less = fewer other.key row rows in grind (arith, nat_tests)
 
 distinct : (rows : List Kept) → Each (λ row. nat_lt 1 (times row.key rows) ≡ false) rows → Distinct rows
 distinct [] h = tt
-distinct (row ∷ rows) h = (never row.key rows (head_once row rows h.0), distinct rows (tail_once row rows rows h.1))
+distinct (row ∷ rows) h = (never row.key rows (head_once row rows h.0), distinct rows (each_of (tail_once row rows) rows h.1))
+
+-- No older row has the key of a new one, and no other new one has it.
+pub record Fresh (older new : List Kept) : Type 0 where
+  pub apart : Each (λ row. has_key row.key older ≡ false) new
+  pub once : Distinct new
+
+pub fresh : (table : Table) (older new : List Kept) → key_cause table older new ≡ None → Fresh older new
+fresh table older new h =
+    let none = none_pass (is_taken older new) new (least_none (filter (is_taken older new) (keys_of new)) (none_mapped (taken_key table) (least (filter (is_taken older new) (keys_of new))) h)) in
+    let either = λ (row : Kept). neither (has_key row.key older) (nat_lt 1 (times row.key new)) in
+    record { apart = each_of (λ row n. (either row n).0) new none; once = distinct new (each_of (λ row n. (either row n).1) new none) }
 
 -- ---- lengths
 
-inserted_here : (rows : Rows) (key : ℤ) (values : List Value) (other : ℤ) (b : Bool) → finite.contains_key rows other ≡ b → (b ≡ true → Unit {0}) → int_eq key other ≡ false → finite.contains_key (finite.insert rows key values) other ≡ b
-inserted_here rows key values other b h u e =
-    ap is_some (finite.get-insert int_cmp_total rows key values other) ∙ ap (λ t. is_some (cond t (Some values) (finite.get rows other))) (int_eq_equiv.symm other key ∙ e) ∙ h
-
 still_apart : (rows : Rows) (key : ℤ) (values : List Value) (new : List Kept) → Each (λ row. finite.contains_key rows row.key ≡ false) new → Each (λ other. int_eq key other.key ≡ false) new → Each (λ row. finite.contains_key (finite.insert rows key values) row.key ≡ false) new
 still_apart rows key values [] h d = tt
-still_apart rows key values (row ∷ new) h d = (inserted_here rows key values row.key false h.0 (λ e. tt) d.0, still_apart rows key values new h.1 d.1)
+still_apart rows key values (row ∷ new) h d =
+    let other = ap (λ t. is_some (cond t (Some values) (finite.get rows row.key))) (int_eq_equiv.symm row.key key ∙ d.0) in
+    (ap is_some (finite.get-insert int_cmp_total rows key values row.key) ∙ other ∙ h.0, still_apart rows key values new h.1 d.1)
 
 -- New rows of new keys are as many more.
 pub new_count : (form : Form) (before : Rows) (new : List Kept) (rows : Rows) → Each (λ row. finite.contains_key rows row.key ≡ false) new → Distinct new → finite.len (put_all (map (stored_change form before) (map Put new)) rows) ≡ finite.len rows + length new
@@ -142,6 +124,3 @@ removed_count form before (row ∷ gone) rows =
     let one : finite.len after ≤ finite.len rows = subst (λ n. n ≤ finite.len rows) (sym (finite.len-remove int_cmp_total rows row.key)) (less_or_same (finite.contains_key rows row.key) (finite.len rows)) in
     let rest = removed_count form before gone after in
     omega (arith, one, rest)
-
-pub distinct_rows : (older new : List Kept) → Fresh older new → Distinct new
-distinct_rows older new f = distinct new f.once

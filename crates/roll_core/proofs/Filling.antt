@@ -1,19 +1,18 @@
 -- A batch: its rows are stored as they are filled, or it is refused as it is refused.
-use Rattle.roll_core.proofs.Words.{◌≡◌, ◌∙◌, ℕ, List, [], true, false, Option, Some, None, Result, Ok, Err, filter, map, take, ap, refl, sym, subst, option_map, slice_get, slice_set, Each}
-use Rattle.roll_core.proofs.Words.{option_map_or, and_then_ok, some_same, and_then, Refusal, Cause, Change, Kept, Stop, Because, NoMemory, after_changes, cause_together, changes, map_fault, without}
-use Rattle.roll_core.proofs.Words.{keys_missing, rows_at, is_missing, name_of, number_of, Reply, Filled, State, CommandOutcome, answered, as_outcome, goes_on_filling, leaves_all, batch, fill_keys}
-use Rattle.roll_core.proofs.Words.{least_batch, refused_batch, HalvesAgree, SiteRow, Ascends, Found, Shared, filling_site, missing_keys, rows_of, shared, site_of, with_rows, changed_by, written_reply}
-use Rattle.roll_core.proofs.Words.{New, Form, OwnTable, Fills, FillsThrough, batch_at, batch_changes, changes_at, changed, Comes, FormSuits, Runs, RowsStored, SameForms, meant, seen, StoredTable}
-use Rattle.roll_core.proofs.Words.{kept, rows_meant, table_meant, Below}
+use Rattle.roll_core.proofs.Words.{Site, ◌≡◌, ◌∙◌, ℕ, List, [], true, false, Option, Some, None, Result, Ok, Err, filter, map, take, ap, refl, sym, subst, option_map, slice_get, slice_set, Each}
+use Rattle.roll_core.proofs.Words.{option_map_or, and_then_ok, some_same, and_then, Refusal, Cause, Change, Kept, Stop, Because, NoMemory, cause_together, changes, map_fault, without, keys_missing}
+use Rattle.roll_core.proofs.Words.{rows_at, is_missing, name_of, number_of, Reply, Filled, State, CommandOutcome, answered, as_outcome, goes_on_filling, leaves_all, batch, fill_keys, least_batch}
+use Rattle.roll_core.proofs.Words.{refused_batch, HalvesAgree, SiteRow, Ascends, Found, Shared, filling_site, missing_keys, rows_of, shared, site_of, changed_by, written_reply, New, Form, OwnTable}
+use Rattle.roll_core.proofs.Words.{Fills, FillsThrough, batch_at, batch_changes, changes_at, changed, Comes, FormSuits, Runs, RowsStored, SameForms, meant, seen, StoredTable, kept, rows_meant, Below}
 use Rattle.roll_core.proofs.Words.finite
 use Rattle.roll_core.proofs.Words.job
-use Rattle.roll_core.proofs.Rows.{Stores, changes_meant, changes_stored}
+use Rattle.roll_core.proofs.Rows.{Stores}
 use Rattle.roll_core.proofs.Fitting.{Weighs, older_weigh}
 use Rattle.roll_core.proofs.Jobs.{job_stores, stored_agree, stored_sites}
 use Rattle.roll_core.proofs.Outcomes.{err_by, map_fault_ok, ok_by, without_ok}
 use Rattle.roll_core.proofs.Missing.{each_left, each_taken, first_missing}
-use Rattle.roll_core.proofs.Tables.{IsRead, all_at, all_set, got_mapped, rows_of-read, same_forms, suits_meant, with_rows-set}
-use Rattle.roll_core.proofs.Written.{placed_weigh}
+use Rattle.roll_core.proofs.Tables.{IsRead, all_at, got_mapped, rows_of-read, suits_meant}
+use Rattle.roll_core.proofs.Written.{leaves, placed_weigh}
 
 -- ---- how it is refused, and how not
 
@@ -85,55 +84,47 @@ stores law frame tables at n f runs all e =
 pub filled : Below → (frame : State) (tables : List OwnTable) (at n : ℕ) (f : Filling frame tables at) → Runs frame (map seen tables) → (result : Result Reply (Stop Reply)) (new : List StoredTable) → FillsThrough (filling_site frame f.both) job.Fill at n tables result new → Fills frame (map seen tables) (batch_at frame (map seen tables) (Some at) n) result new
 filled law frame tables at n f runs result new h = by_result result h
   where
-    got : slice_get (map seen tables) at ≡ Some (seen f.table)
-    got = got_mapped seen tables at f.table f.here
+    s : State
+    s = meant frame (map seen tables)
 
-    read : IsRead (map seen tables) at f.table.number (seen f.table)
-    read = record { here = got; numbered = refl }
+    site : Site
+    site = filling_site frame f.both
 
-    rows_are : rows_of (meant frame (map seen tables)) f.table.number ≡ rows_meant (seen f.table)
-    rows_are = rows_of-read frame (map seen tables) at f.table.number (seen f.table) runs.stands read
+    rows : List Kept
+    rows = rows_meant (seen f.table)
 
-    numbered : number_of f.both.new ≡ f.table.number
-    numbered = (law.filling (meant frame (map seen tables)) f.table.number f.both runs.stands f.shares).0
+    read : IsRead (map seen tables) at (number_of f.both.new) (seen f.table)
+    read = record { here = got_mapped seen tables at f.table f.here; numbered = sym (law.filling s f.table.number f.both runs.stands f.shares).0 }
 
-    rows_there : rows_of (meant frame (map seen tables)) (number_of f.both.new) ≡ rows_meant (seen f.table)
-    rows_there = ap (rows_of (meant frame (map seen tables))) numbered ∙ rows_are
+    there : rows_of s (number_of f.both.new) ≡ rows
+    there = rows_of-read frame (map seen tables) at (number_of f.both.new) (seen f.table) runs.stands read
 
-    is : batch_at frame (map seen tables) (Some at) n ≡ and_then (made (meant frame (map seen tables)) f.both n (rows_meant (seen f.table))) (λ all. without (refused_as (meant frame (map seen tables)) f.both (rows_meant (seen f.table)) all) (changed_by (meant frame (map seen tables)) (filling_site frame f.both) job.Fill all))
-    is = ap (least_batch (meant frame (map seen tables)) n) (ap (option_map (λ (table : StoredTable). table.number)) got)
-        ∙ taken (meant frame (map seen tables)) f.table.number n f.both (rows_meant (seen f.table)) f.shares rows_are (subst Ascends rows_are (law.rows (meant frame (map seen tables)) f.table.number runs.stands).0)
-        ∙ batch_over (meant frame (map seen tables)) f.both n (rows_meant (seen f.table)) rows_there
+    is : batch_at frame (map seen tables) (Some at) n ≡ and_then (made s f.both n rows) (λ all. without (refused_as s f.both rows all) (changed_by s site job.Fill all))
+    is =
+        let own = ap (rows_of s) read.numbered ∙ there in
+        ap (least_batch s n) (ap (option_map (λ (table : StoredTable). table.number)) read.here)
+        ∙ taken s f.table.number n f.both rows f.shares own (subst Ascends own (law.rows s f.table.number runs.stands).0) ∙ batch_over s f.both n rows there
 
-    at_table : (r : Result (List Change) Refusal) → changes_at (filling_site frame f.both) job.Fill at n tables ≡ Some r → batch_changes (filling_site frame f.both) job.Fill (rows_meant (seen f.table)) n ≡ r
-    at_table r e = some_same (batch_changes (filling_site frame f.both) job.Fill (rows_meant (seen f.table)) n) r (ap (option_map (λ table. batch_changes (filling_site frame f.both) job.Fill (rows_meant (seen table)) n)) (sym f.here) ∙ e)
+    at_table : (r : Result (List Change) Refusal) → changes_at site job.Fill at n tables ≡ Some r → batch_changes site job.Fill rows n ≡ r
+    at_table r e = some_same (batch_changes site job.Fill rows n) r (ap (option_map (λ table. batch_changes site job.Fill (rows_meant (seen table)) n)) (sym f.here) ∙ e)
 
-    put : (reply : Reply) (all : List Change) → batch_changes (filling_site frame f.both) job.Fill (rows_meant (seen f.table)) n ≡ Ok all → reply ≡ written_reply (filling_site frame f.both) job.Fill all → new ≡ slice_set (map seen tables) at (changed all f.table) → Fills frame (map seen tables) (batch_at frame (map seen tables) (Some at) n) (Ok reply) new
+    put : (reply : Reply) (all : List Change) → batch_changes site job.Fill rows n ≡ Ok all → reply ≡ written_reply site job.Fill all → new ≡ slice_set (map seen tables) at (changed all f.table) → Fills frame (map seen tables) (batch_at frame (map seen tables) (Some at) n) (Ok reply) new
     put reply all e told now =
-        let s = meant frame (map seen tables) in
-        let site = filling_site frame f.both in
-        let rows = rows_meant (seen f.table) in
-        let done = changed_by s site job.Fill all in
         let stored = stores law frame tables at n f runs all (made_by (refused_batch (name_of f.both.new)) (changes site job.Fill (take n (filter is_missing rows))) (refused_as s f.both rows) all e) in
-        let means : table_meant (changed all f.table) ≡ (f.table.number, after_changes all rows) = ap (λ rows. (f.table.number, rows)) (changes_meant law.removed f.table.form f.table.rows.rows all stored) in
-        let set : with_rows s f.table.number (after_changes all rows) ≡ meant frame (slice_set (map seen tables) at (changed all f.table)) = with_rows-set frame (map seen tables) at f.table.number (after_changes all rows) (seen f.table) (changed all f.table) runs.stands read means in
-        let after : done.after ≡ meant frame new = ap (λ rs. with_rows s (number_of f.both.new) (after_changes all rs)) rows_there ∙ ap (λ k. with_rows s k (after_changes all rows)) numbered ∙ set ∙ ap (meant frame) (sym now) in
-        let result_is : batch_at frame (map seen tables) (Some at) n ≡ Ok done = is ∙ ok_by (made s f.both n rows) (refused_as s f.both rows) (changed_by s site job.Fill) all e in
+        let left = leaves law.removed frame (map seen tables) at (number_of f.both.new) f.table runs read all stored in
+        let outcome = is ∙ ok_by (made s f.both n rows) (refused_as s f.both rows) (changed_by s site job.Fill) all e in
         record {
-          answers = (done, ap as_outcome result_is, told, sym after, λ leaves. let is : leaves_all (written_reply site job.Fill all) ≡ true = ap leaves_all (sym told) ∙ leaves in cc);
+          answers = (changed_by s site job.Fill all, ap as_outcome outcome, told, sym (left.after ∙ ap (meant frame) (sym now)), λ leaves. let is : leaves_all (written_reply site job.Fill all) ≡ true = ap leaves_all (sym told) ∙ leaves in cc);
           looks = λ none. let is : goes_on_filling (written_reply site job.Fill all) ≡ false = ap goes_on_filling (sym told) ∙ none in cc;
-          forms = subst (SameForms (map seen tables)) (sym now) (same_forms (map seen tables) at (seen f.table) (changed all f.table) got refl refl);
-          stored = subst (Each RowsStored) (sym now) (all_set RowsStored (map seen tables) at (changed all f.table) runs.rows (changes_stored law.removed f.table.form f.table.rows.rows all stored (all_at RowsStored (map seen tables) at (seen f.table) runs.rows got)));
+          forms = subst (SameForms (map seen tables)) (sym now) left.forms;
+          stored = subst (Each RowsStored) (sym now) left.stored;
         }
 
-    by_result : (result : Result Reply (Stop Reply)) → FillsThrough (filling_site frame f.both) job.Fill at n tables result new → Fills frame (map seen tables) (batch_at frame (map seen tables) (Some at) n) result new
+    by_result : (result : Result Reply (Stop Reply)) → FillsThrough site job.Fill at n tables result new → Fills frame (map seen tables) (batch_at frame (map seen tables) (Some at) n) result new
     by_result (Ok reply) h =
-        let now = some_same new (slice_set (map seen tables) at (changed h.0 f.table)) (h.3 ∙ ap (option_map (λ table. slice_set (map seen tables) at (changed h.0 table))) f.here) in
-        put reply h.0 (at_table (Ok h.0) h.1) h.2 now
+        put reply h.0 (at_table (Ok h.0) h.1) h.2 (some_same new (slice_set (map seen tables) at (changed h.0 f.table)) (h.3 ∙ ap (option_map (λ table. slice_set (map seen tables) at (changed h.0 table))) f.here))
     by_result (Err (Because reply)) h =
-        let s = meant frame (map seen tables) in
-        let rows = rows_meant (seen f.table) in
-        let refused : batch_at frame (map seen tables) (Some at) n ≡ Err h.0 = is ∙ err_by (made s f.both n rows) (refused_as s f.both rows) (changed_by s (filling_site frame f.both) job.Fill) h.0 (at_table (Err h.0) h.1) in
+        let refused = is ∙ err_by (made s f.both n rows) (refused_as s f.both rows) (changed_by s site job.Fill) h.0 (at_table (Err h.0) h.1) in
         unchanged frame (map seen tables) (batch_at frame (map seen tables) (Some at) n) (Err (Because reply)) new runs h.3 (ap as_outcome refused ∙ ap Err (sym h.2), h.3)
     by_result (Err NoMemory) h = unchanged frame (map seen tables) (batch_at frame (map seen tables) (Some at) n) (Err NoMemory) new runs h h
 

@@ -64,11 +64,6 @@ older_weigh form rows s = rows_weigh form rows (finite.entries rows) (sorted_fou
 
 -- ---- the halves of one version
 
-record AloneHas (here : Table) (row : Kept) : Type 0 where
-  values : List Value
-  halves : row.halves ≡ record { old = Some values; new = None }
-  fits : row_fits (shape_of here) values ≡ true
-
 halves_are : (halves : Halves) (old new : Option (List Value)) → halves.old ≡ old → halves.new ≡ new → halves ≡ record { old = old; new = new }
 halves_are halves old new o n = λ i. record { old = o i; new = n i }
 
@@ -76,14 +71,14 @@ none_new : (key : ℤ) (new : Option (List Value)) → HalfStands None key new �
 none_new key None h = refl
 none_new key (Some values) h = absurd h
 
-alone_has : (here : Table) (row : Kept) → HalfStands (Some here) row.key row.halves.old → HalfStands None row.key row.halves.new → AloneHas here row
+alone_has : (here : Table) (row : Kept) → HalfStands (Some here) row.key row.halves.old → HalfStands None row.key row.halves.new → AloneFits (shape_of here) row
 alone_has here row o n = by_old row.halves.old refl o
   where
-    by_old : (old : Option (List Value)) → row.halves.old ≡ old → HalfStands (Some here) row.key old → AloneHas here row
+    by_old : (old : Option (List Value)) → row.halves.old ≡ old → HalfStands (Some here) row.key old → AloneFits (shape_of here) row
     by_old None e h = absurd h
     by_old (Some values) e h = record { values = values; halves = halves_are row.halves (Some values) None e (none_new row.key row.halves.new n); fits = h.0 }
 
-alone_site : (side : Side) (here : Table) (there : Option Beside) (row : Kept) → side ≡ Old → there ≡ None → HalfStands (table_by side here there) row.key row.halves.old → NewStands (may_miss_beside there) (new_table_by side here there) row.key row.halves.new → AloneHas here row
+alone_site : (side : Side) (here : Table) (there : Option Beside) (row : Kept) → side ≡ Old → there ≡ None → HalfStands (table_by side here there) row.key row.halves.old → NewStands (may_miss_beside there) (new_table_by side here there) row.key row.halves.new → AloneFits (shape_of here) row
 alone_site Old here None row s t o n = alone_has here row o n
 alone_site Old here (Some beside) row s t o n = cc
 alone_site New here there row s t o n = cc
@@ -101,7 +96,7 @@ calm_shared s number m = ap (λ mode. option_and_then (λ old. option_and_then (
     by_table None = refl
     by_table (Some old) = refl
 
-calm_has : (s : State) (found : Found) → s.mode ≡ Calm → TableStands s found → (row : Kept) → SiteRow (λ lost. Unit {0}) (site_of s found) row → AloneHas found.table row
+calm_has : (s : State) (found : Found) → s.mode ≡ Calm → TableStands s found → (row : Kept) → SiteRow (λ lost. Unit {0}) (site_of s found) row → AloneFits (shape_of found.table) row
 calm_has s found m stands row r =
     let number = number_of found.table in
     let none = ap (option_map (beside_on found.side)) (calm_shared s number m) in
@@ -162,12 +157,10 @@ form_stands s number (Paired pair) f = f.is_pair
 form_stands s number (Left pair) f = f.is_pair
 form_stands s number (Trimmed pair) f = f.is_pair
 
-left_fits : (s : State) (found : Found) (pair : Pair) → LeftBy s (number_of found.table) pair → TableStands s found → (row : Kept) → SiteRow (λ lost. Unit {0}) (site_of s found) row → AloneFits pair row
+left_fits : (s : State) (found : Found) (pair : Pair) → LeftBy s (number_of found.table) pair → TableStands s found → (row : Kept) → SiteRow (λ lost. Unit {0}) (site_of s found) row → AloneFits pair.new row
 left_fits s found pair f stands row r =
-    let number = number_of found.table in
-    let has = calm_has s found f.calm stands row r in
-    let old = subst (λ side. table_on s side number ≡ Some found.table) (calm_side s f.calm found.side number found.table stands.on_side) stands.on_side in
-    record { values = has.values; halves = has.halves; fits = subst (λ shape. row_fits shape has.values ≡ true) (sym (f.shape found.table old)) has.fits }
+    let old = subst (λ side. table_on s side (number_of found.table) ≡ Some found.table) (calm_side s f.calm found.side (number_of found.table) found.table stands.on_side) stands.on_side in
+    subst (λ shape. AloneFits shape row) (sym (f.shape found.table old)) (calm_has s found f.calm stands row r)
 
 pub storable : (s : State) (found : Found) → TableStands s found → ((both : Shared) → shared s (number_of found.table) ≡ Some both → PairStands s (number_of found.table) both) → (form : Form) (before : Option (List Value)) (row : Kept) → FormSuits s (number_of found.table) form
     → SiteRow (λ lost. Unit {0}) (site_of s found) row → HasNew (site_of s found).there row.halves → AgreesIn s (number_of found.table) row → WeighsOver form before row.lost → Storable form before row

@@ -1,13 +1,14 @@
 -- What a job changes can be stored.
 use Rattle.roll_core.proofs.Words.{slice_get_within, arith, ◌≡◌, ◌∙◌, ◌<◌, ◌+◌, ℕ, zero, suc, ℤ, List, [], ◌∷◌, Bool, true, false, if◌then◌else◌, Option, Some, None, Ok, length, map, ap, refl, sym}
 use Rattle.roll_core.proofs.Words.{subst, option_map, slice_get, slice_index_or, Each, nat_tests, get_or-take, some_same, Value, Null, Cell, Carry, Make, Still, is_carried_from, Table, Change, Put}
-use Rattle.roll_core.proofs.Words.{Remove, Job, Kept, changes, Site, number_of, shape_of, Calm, State, RowsOnSites, RowsStandBy, BesideStands, ChangeAgrees, ChangeStands, HalvesAgree, JobStands}
-use Rattle.roll_core.proofs.Words.{OfPut, PairStands, SiteRow, SiteStands, TableStands, IsState, RowsStand, Found, Shared, beside_on, rows_of, shared, site_of, table_on, New, Old, Side, Rows, Pair}
-use Rattle.roll_core.proofs.Words.{IsPair, PairsAreLong, is_marked, new_half, new_view, old_view, places, Form, Own, Paired, Left, Trimmed, FormSuits, StoredRow, kept, Below}
+use Rattle.roll_core.proofs.Words.{Remove, Job, Kept, changes, number_of, shape_of, Calm, State, RowsOnSites, RowsStandBy, BesideStands, ChangeAgrees, ChangeStands, HalvesAgree, JobStands, OfPut}
+use Rattle.roll_core.proofs.Words.{PairStands, SiteRow, SiteStands, TableStands, IsState, RowsStand, Found, Shared, beside_on, rows_of, shared, site_of, table_on, New, Old, Side, Rows, Pair, IsPair}
+use Rattle.roll_core.proofs.Words.{PairsAreLong, is_marked, new_half, new_view, old_view, places, Form, Own, Paired, Left, Trimmed, FormSuits, StoredRow, kept, Below}
 use Rattle.roll_core.proofs.Words.finite
 use Rattle.roll_core.proofs.Rows.{Stores}
 use Rattle.roll_core.proofs.Fitting.{Weighs, calm_shared, form_stands, storable}
-use Rattle.roll_core.proofs.Made.{HasNew, Placed, PutBy, SideOf, changes_placed}
+use Rattle.roll_core.proofs.Made.{HasNew, Placed, PutBy, SideOf, changes_placed, of_put}
+use Rattle.roll_core.proofs.Tables.{each_of}
 use Rattle.roll_core.proofs.Storing.{stores_row}
 
 -- ---- what two views of a stored row have in common
@@ -92,11 +93,6 @@ rows_each : RowsOnSites → (s : State) (found : Found) → IsState s → TableS
 rows_each law s found is stands [] h = tt
 rows_each law s found is stands (row ∷ rows) h = (law s found row is stands h.0, rows_each law s found is stands rows h.1)
 
-has_each : (P : ℤ → ℕ → Type 0) (site : Site) (all : List Change) → Each (OfPut (Placed P site)) all → Each (OfPut (λ row. HasNew site.there row.halves)) all
-has_each P site [] h = tt
-has_each P site (Put row ∷ all) h = (h.0.has_new, has_each P site all h.1)
-has_each P site (Remove key ∷ all) h = (tt, has_each P site all h.1)
-
 -- The changes of a job to rows of a table in a state that stands are stored so that they are meant, where the lost weights are those of what is stored.
 pub job_stores : Below → (s : State) (found : Found) → IsState s → TableStands s found → (form : Form) (rows : Rows) → FormSuits s (number_of found.table) form → (what : Job) → SideOf (site_of s found) what → JobStands (shape_of found.table) what
     → (older : List Kept) → Each (SiteRow (λ lost. Unit {0}) (site_of s found)) older → ((both : Shared) → shared s (number_of found.table) ≡ Some both → Each (λ row. HalvesAgree both.lens row.halves) older)
@@ -111,7 +107,7 @@ job_stores law s found is stands form rows suits what side job older sites agree
     let agrees : (both : Shared) → shared s number ≡ Some both → Each (ChangeAgrees both.lens) all = λ both h.
     subst (λ lens. Each (ChangeAgrees lens) all) (lens_beside found.side both)
     (law.agree site (beside_on found.side both) what older all (site_stands law s found is stands) (ap (option_map (beside_on found.side)) h) (subst (λ lens. Each (λ row. HalvesAgree lens row.halves) older) (sym (lens_beside found.side both)) (agree both h)) e) in
-    each_stores law s found stands pairs form rows suits all made (has_each P site all placed) agrees (weighs placed)
+    each_stores law s found stands pairs form rows suits all made (each_of (of_put (λ row (p : Placed P site row). p.has_new)) all placed) agrees (weighs placed)
 
 pub stored_agree : PairsAreLong → (s : State) (number : ℕ) (form : Form) → FormSuits s number form → (rows : List StoredRow) (both : Shared) → shared s number ≡ Some both → Each (λ row. HalvesAgree both.lens row.halves) (map (kept form) rows)
 stored_agree long s number form suits rows both is = older_agree long s number form suits both is rows

@@ -1,11 +1,12 @@
 -- The first step of completing leaves stored rows that mean what the machine leaves.
-use Rattle.roll_core.proofs.Words.{nat_eq, list_any, Each, Below, ◌||◌, meaning, arith, ◌≡◌, ◌∙◌, ℕ, List, [], ◌∷◌, Bool, true, false, ◌==◌, Option, Some, None, Ok, Err, inl, inr, find, is_some, nat_lt, map, ap, refl}
-use Rattle.roll_core.proofs.Words.{sym, subst, option_map, option_and_then, if◌then◌else◌, slice_get, AllByRecursion, cons_option, filter_map, option_map_or, option_or, nat_tests, either_none, Schema}
-use Rattle.roll_core.proofs.Words.{Value, least, Lens, Kind, Refusal, NotFilled, Unfinished, Fate, Kept, first_some, without, name_of, invalid_cause, Mode, Calm, Both, State, complete, completed}
-use Rattle.roll_core.proofs.Words.{completed_row, finish, lost_columns_in, lost_in_table, not_valid, stepped, tidied, CommandOutcome, Complete, IsState, ModeStands, NewerStands, Shared, lens_among}
-use Rattle.roll_core.proofs.Words.{rows_of, shared, table_on, New, Pair, IsPair, UnfilledRowsAreBegun, IsFilledRow, IsPairedRow, is_marked, new_view, old_view, Paired, Left, Former, meant, numbers_in}
-use Rattle.roll_core.proofs.Words.{AreKept, Goes, former_by, former_of, invalid_in, left_by, left_form, left_frame, left_parts, left_table, lost_by, lost_columns, may_not_complete, not_filled_in}
-use Rattle.roll_core.proofs.Words.{IsStored, IsStoredRow, IsStoredTable, Stored, StoredRow, StoredTable, kept, lost_columns_by, over_pair, pair_over, rows_meant, table_meant}
+use Rattle.roll_core.proofs.Words.{nat_eq, list_any, Each, Below, ◌||◌, meaning, arith, ◌≡◌, ◌∙◌, ℕ, List, [], ◌∷◌, Bool, true, false, ◌==◌, Option, Some, None, Ok, Err, inl, inr, find, is_some}
+use Rattle.roll_core.proofs.Words.{nat_lt, map, ap, refl, sym, subst, option_map, option_and_then, if◌then◌else◌, slice_get, AllByRecursion, cons_option, filter_map, option_map_or, option_or}
+use Rattle.roll_core.proofs.Words.{nat_tests, either_none, Schema, Value, least, Lens, Kind, Refusal, NotFilled, Unfinished, Fate, Kept, first_some, without, name_of, invalid_cause, Mode, Calm, Both}
+use Rattle.roll_core.proofs.Words.{State, complete, completed, completed_row, finish, lost_columns_in, lost_in_table, not_valid, stepped, tidied, CommandOutcome, Complete, IsState, ModeStands}
+use Rattle.roll_core.proofs.Words.{NewerStands, Shared, lens_among, rows_of, shared, table_on, New, Pair, IsPair, UnfilledRowsAreBegun, IsFilledRow, IsPairedRow, is_marked, new_view, old_view, Paired}
+use Rattle.roll_core.proofs.Words.{Left, Former, meant, numbers_in, AreKept, Goes, former_by, former_of, invalid_in, left_by, left_form, left_frame, left_parts, left_table, lost_by, lost_columns}
+use Rattle.roll_core.proofs.Words.{may_not_complete, not_filled_in, IsStored, IsStoredRow, IsStoredTable, Stored, StoredRow, StoredTable, kept, lost_columns_by, over_pair, pair_over, rows_meant}
+use Rattle.roll_core.proofs.Words.{table_meant}
 use Rattle.roll_core.proofs.Words.kind
 use Rattle.roll_core.proofs.Words.migrate
 use Rattle.row_rules.specs.Rows.{missing_keys}

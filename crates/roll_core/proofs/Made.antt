@@ -18,6 +18,10 @@ every_made f P Q h (x ∷ xs) ys p e =
     let rest = and_then_ok (every (map f xs)) (λ ys. Ok (first.0 ∷ ys)) ys first.2 in
     subst (Each Q) (ok_same (first.0 ∷ rest.0) ys rest.2) (h x first.0 p.0 first.1, every_made f P Q h xs rest.0 p.1 rest.1)
 
+pub of_put : {P Q : Kept → Type 0} → ((row : Kept) → P row → Q row) → (change : Change) → OfPut P change → OfPut Q change
+of_put h (Put row) p = h row p
+of_put h (Remove key) p = tt
+
 -- ---- one row
 
 -- Whether the new half is there, where both versions have the table.

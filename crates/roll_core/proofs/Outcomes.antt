@@ -1,5 +1,9 @@
 -- What an outcome of several parts says of each.
-use Rattle.roll_core.proofs.Words.{◌≡◌, Option, Some, None, Result, Ok, Err, ap, refl, subst, and_then, and_then_ok, guarded, map_fault, ok_same, without}
+use Rattle.roll_core.proofs.Words.{option_map, ◌≡◌, Option, Some, None, Result, Ok, Err, ap, refl, subst, and_then, and_then_ok, guarded, map_fault, ok_same, without}
+
+pub none_mapped : {X Y : Type 0} (f : X → Y) (o : Option X) → option_map f o ≡ None → o ≡ None
+none_mapped f None e = refl
+none_mapped f (Some x) e = cc
 
 pub guarded_ok : {T E : Type 0} (fault : Option E) (next : Result T E) (y : T) → guarded fault next ≡ Ok y → (fault ≡ None) × (next ≡ Ok y)
 guarded_ok None next y h = (refl, h)

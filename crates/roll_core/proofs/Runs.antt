@@ -147,7 +147,7 @@ pub runs_of : (stored : Stored) → IsStored stored → Runs stored.frame stored
 runs_of stored is = record {
   stands = is.stands;
   forms = each_place (λ table. FormSuits stored.frame table.number table.form) stored.tables (λ at table e.
-  form_suits stored is stored.frame.mode refl table (own_number stored.tables at table e) (all_at (IsStoredTable stored) stored.tables at table is.tables e));
+      form_suits stored is stored.frame.mode refl table (own_number stored.tables at table e) (all_at (IsStoredTable stored) stored.tables at table is.tables e));
   lost = each_of (λ (table : StoredTable) h. h.lost) stored.tables is.tables;
   rows = each_of (λ (table : StoredTable) h. h.rows) stored.tables is.tables;
 }

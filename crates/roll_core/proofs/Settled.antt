@@ -1,39 +1,29 @@
 -- What a statement changes in its table is accepted or refused as the machine has it, and leads to what the machine says.
-use Rattle.roll_core.proofs.Words.{slice_get-get_or, arith, ◌≡◌, ◌≤◌, ◌<◌, ◌∙◌, ◌^◌, ◌-◌, min, ℕ, ◌+◌, ℤ, List, [], ◌∷◌, true, false, Option, Some, None, Result, Ok, Err, if◌then◌else◌, is_some}
-use Rattle.roll_core.proofs.Words.{nat_lt, length, map, int_cmp, ap, refl, sym, subst, option_map, slice_get, slice_index_or, slice_set, Each, option_or, nat_tests, length-map, and_then_ok, ok_same}
-use Rattle.roll_core.proofs.Words.{some_same, and_then, every, Cause, Change, Put, Remove, Job, Kept, SqlError, clashes, has_key, total_weight, heavy_statement, max_total, row_error, after_changes}
-use Rattle.roll_core.proofs.Words.{altered_row, cause_together, changes, keys_changed, matching, new_keys_cause, refused_together, rows_put, Stop, Because, NoMemory, Answers, guarded, map_fault, Site}
-use Rattle.roll_core.proofs.Words.{number_of, shape_of, Reply, State, Done, Outcome, leaves_all, JobStands, OfPut, TableStands, Found, lost_columns_of, row_count, rows_of, site_of, with_rows}
-use Rattle.roll_core.proofs.Words.{error_reply, max_rows, too_many_rows, written_reply, Rows, IsState, Form, OwnTable, changed, rows_after, with_changes, Comes, FormSuits, IsSite, IsStatement, Runs}
-use Rattle.roll_core.proofs.Words.{RowsStored, SameForms, accepted, meant, refused_all, stored_count, too_many, too_many_error, own_count, seen, StoredRow, StoredTable, kept, lost_columns_by}
-use Rattle.roll_core.proofs.Words.{rows_meant, table_meant, Below}
+use Rattle.roll_core.proofs.Words.{either_none, slice_get-get_or, arith, ◌≡◌, ◌≤◌, ◌<◌, ◌∙◌, ◌^◌, ◌-◌, min, ℕ, ◌+◌, ℤ, List, [], ◌∷◌, true, false, Option, Some, None, Result, Ok, Err, if◌then◌else◌}
+use Rattle.roll_core.proofs.Words.{is_some, nat_lt, length, map, int_cmp, ap, refl, sym, subst, option_map, slice_get, slice_index_or, slice_set, Each, option_or, nat_tests, length-map, and_then_ok}
+use Rattle.roll_core.proofs.Words.{ok_same, some_same, and_then, every, Cause, Change, Put, Remove, Job, Kept, SqlError, clashes, has_key, total_weight, heavy_statement, max_total, row_error}
+use Rattle.roll_core.proofs.Words.{after_changes, altered_row, cause_together, changes, keys_changed, matching, new_keys_cause, refused_together, rows_put, Stop, Because, NoMemory, Answers, guarded}
+use Rattle.roll_core.proofs.Words.{map_fault, Site, number_of, shape_of, Reply, State, Done, Outcome, leaves_all, JobStands, OfPut, TableStands, Found, lost_columns_of, row_count, rows_of, site_of}
+use Rattle.roll_core.proofs.Words.{with_rows, error_reply, max_rows, too_many_rows, written_reply, Rows, IsState, Form, OwnTable, changed, rows_after, with_changes, Comes, FormSuits, IsSite}
+use Rattle.roll_core.proofs.Words.{IsStatement, Runs, RowsStored, SameForms, accepted, meant, refused_all, stored_count, too_many, too_many_error, own_count, seen, StoredRow, StoredTable, kept}
+use Rattle.roll_core.proofs.Words.{lost_columns_by, rows_meant, Below}
 use Rattle.roll_core.proofs.Words.finite
 use Rattle.roll_core.proofs.Words.job
 use Rattle.roll_core.proofs.Words.statement
 use Rattle.std.specs.FinMap.{find}
 use Rattle.roll_core.proofs.Begun.{stands_there}
-use Rattle.roll_core.proofs.Rows.{Stores, changes_meant, changes_stored, has_key-stored}
-use Rattle.roll_core.proofs.Counted.{distinct_rows, new_count, removed_count, rows_are, same_count}
+use Rattle.roll_core.proofs.Rows.{Stores, has_key-stored}
+use Rattle.roll_core.proofs.Counted.{new_count, removed_count, rows_are, same_count}
 use Rattle.roll_core.proofs.Fitting.{sorted_found}
 use Rattle.roll_core.proofs.Made.{Placed, changes_placed}
-use Rattle.roll_core.proofs.Outcomes.{guarded_ok, map_fault_ok}
-use Rattle.roll_core.proofs.Tables.{IsRead, all_at, all_set, count_seen, count_set, row_count-meant, rows_of-read, same_forms, suits_meant, with_rows-set}
-use Rattle.roll_core.proofs.Written.{new_fresh, statement_stores}
-
--- ---- options
-
-none_first : {X : Type 0} (a b : Option X) → option_or a b ≡ None → a ≡ None
-none_first None b e = refl
-none_first (Some x) b e = cc
-
-none_mapped : {X Y : Type 0} (f : X → Y) (o : Option X) → option_map f o ≡ None → o ≡ None
-none_mapped f None e = refl
-none_mapped f (Some x) e = cc
+use Rattle.roll_core.proofs.Outcomes.{guarded_ok, map_fault_ok, none_mapped}
+use Rattle.roll_core.proofs.Tables.{IsRead, all_at, count_seen, count_set, row_count-meant, rows_of-read, suits_meant}
+use Rattle.roll_core.proofs.Written.{leaves, new_fresh, statement_stores}
 
 keys_accepted : (site : Site) (what : Job) (older : List Kept) (all : List Change) → refused_together site what older all ≡ None → new_keys_cause site what older all ≡ None
 keys_accepted site what older all e =
-    let one = none_first (option_map row_error (cause_together site what older all)) (if nat_lt max_total (total_weight (rows_put all)) then Some heavy_statement else None) e in
-    none_first (new_keys_cause site what older all) (clashes site (after_changes all older) (keys_changed all)) (none_mapped row_error (cause_together site what older all) one)
+    let one = (either_none (option_map row_error (cause_together site what older all)) (if nat_lt max_total (total_weight (rows_put all)) then Some heavy_statement else None) e).0 in
+    (either_none (new_keys_cause site what older all) (clashes site (after_changes all older) (keys_changed all)) (none_mapped row_error (cause_together site what older all) one)).0
 
 -- ---- how many rows the changes leave
 
@@ -59,7 +49,7 @@ job_counts : (site : Site) (form : Form) (rows : Rows) (what : Job) (all : List 
 job_counts site form rows (job.Put values) all e none =
     let older = map (kept form) (finite.entries rows) in
     let f = new_fresh site values older all e none in
-    let count = new_count form rows f.0 rows (apart_keys form rows f.0 f.2.apart) (distinct_rows older f.0 f.2) in
+    let count = new_count form rows f.0 rows (apart_keys form rows f.0 f.2.apart) f.2.once in
     subst (λ all. finite.len (rows_after form all rows) ≡ finite.len rows + length all) f.1 (count ∙ ap (λ n. finite.len rows + n) (sym (length-map f.0 Put)))
 job_counts site form rows (job.Alter sets condition) all e none =
     let older = map (kept form) (finite.entries rows) in
@@ -104,23 +94,12 @@ table_stores law frame tables at found table what m all e none =
     statement_stores law (meant frame tables) found m.runs.stands (stands_there frame tables found m.stands) table.form table.rows.rows (suits_meant frame tables number table.form suits) lost
     (all_at RowsStored tables at (seen table) m.runs.rows m.read.here) (rows_are_read frame tables at found table what m) what m.said m.settled all e (keys_accepted (site_of frame found) what (rows_meant (seen table)) all none)
 
--- The state with the changed rows is that of the tables with the changed one.
-after_is : Below → (frame : State) (tables : List StoredTable) (at : ℕ) (found : Found) (table : OwnTable) (what : Job) → Meets frame tables at found table what → (all : List Change) → Each (Stores table.form table.rows.rows) all → with_rows (meant frame tables) (number_of found.table) (statement.rows_after (meant frame tables) (site_of frame found) all) ≡ meant frame (slice_set tables at (changed all table))
-after_is law frame tables at found table what m all stores =
-    let s = meant frame tables in
-    let number = number_of found.table in
-    let older = rows_meant (seen table) in
-    let is : table_meant (changed all table) ≡ (number, after_changes all older) =
-    ap (λ (n : ℕ). (n, rows_meant (changed all table))) m.read.numbered ∙ ap (λ (rows : List Kept). (number, rows)) (changes_meant law.removed table.form table.rows.rows all stores) in
-    ap (λ rows. with_rows s number (after_changes all rows)) (rows_are_read frame tables at found table what m)
-    ∙ with_rows-set frame tables at number (after_changes all older) (seen table) (changed all table) m.runs.stands m.read is
-
 too_many-is : Below → (frame : State) (tables : List StoredTable) (at : ℕ) (found : Found) (table : OwnTable) (what : Job) → Meets frame tables at found table what → (all : List Change) → Each (Stores table.form table.rows.rows) all → CountsBy what (finite.len table.rows.rows) (finite.len (rows_after table.form all table.rows.rows)) all
     → statement.too_many (meant frame tables) (site_of frame found) all ≡ too_many_error (stored_count tables) what all
 too_many-is law frame tables at found table what m all stores counts =
     let new = slice_set tables at (changed all table) in
     let sum : row_count (with_rows (meant frame tables) (number_of found.table) (statement.rows_after (meant frame tables) (site_of frame found) all)) ≡ stored_count new =
-    ap row_count (after_is law frame tables at found table what m all stores) ∙ row_count-meant frame new in
+    ap row_count (leaves law.removed frame tables at (number_of found.table) table m.runs m.read all stores).after ∙ row_count-meant frame new in
     let both = count_set tables at (seen table) (changed all table) m.read.here in
     let before = finite.len-entries table.rows.rows in
     let after = finite.len-entries (rows_after table.form all table.rows.rows) in
@@ -173,7 +152,7 @@ accepted_parts table count site what all e =
     let step = and_then_ok (map_fault of (changes site what (rows_meant table))) (λ all. guarded (refused_all table count site what all) (Ok all)) all e in
     let made = map_fault_ok of (changes site what (rows_meant table)) step.0 step.1 in
     let parts = guarded_ok (refused_all table count site what step.0) step.0 all step.2 in
-    let none = none_mapped error_reply (refused_together site what (rows_meant table) step.0) (none_first (option_map error_reply (refused_together site what (rows_meant table) step.0)) (too_many_error count what step.0) parts.0) in
+    let none = none_mapped error_reply (refused_together site what (rows_meant table) step.0) (either_none (option_map error_reply (refused_together site what (rows_meant table) step.0)) (too_many_error count what step.0) parts.0).0 in
     let same = ok_same step.0 all parts.1 in
     (made ∙ ap Ok same, subst (λ all. refused_together site what (rows_meant table) all ≡ None) same none)
 
@@ -196,10 +175,11 @@ settled_at law frame tables at found table what m all e =
     let site = site_of frame found in
     let parts = accepted_parts (seen table) (stored_count tables) site what all e in
     let stores = table_stores law frame tables at found table what m all parts.0 parts.1 in
+    let left = leaves law.removed frame tables at (number_of found.table) table m.runs m.read all stores in
     record {
-      comes = (statement.changed s site what all, written_is law frame tables at found table what m ∙ ap (λ (r : Result (List Change) Reply). and_then r (λ all. Ok (statement.changed s site what all))) e, refl, sym (after_is law frame tables at found table what m all stores), λ h. let no = sym h ∙ tells site what all m.said in cc);
-      forms = same_forms tables at (seen table) (changed all table) m.read.here refl refl;
-      stored = all_set RowsStored tables at (changed all table) m.runs.rows (changes_stored law.removed table.form table.rows.rows all stores (all_at RowsStored tables at (seen table) m.runs.rows m.read.here));
+      comes = (statement.changed s site what all, written_is law frame tables at found table what m ∙ ap (λ (r : Result (List Change) Reply). and_then r (λ all. Ok (statement.changed s site what all))) e, refl, sym left.after, λ h. let no = sym h ∙ tells site what all m.said in cc);
+      forms = left.forms;
+      stored = left.stored;
     }
 
 -- ---- over the site

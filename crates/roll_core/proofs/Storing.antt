@@ -1,9 +1,9 @@
 -- The halves of what is stored are the halves that it is made of.
-use Rattle.roll_core.proofs.Words.{get_or_append_left, ◌≡◌, ◌∙◌, ◌<◌, ℕ, suc, ℤ, ◌+◌, List, [], ◌∷◌, ◌++◌, true, false, if◌then◌else◌, Option, Some, None, ap, refl, sym, subst, length, map, take}
-use Rattle.roll_core.proofs.Words.{append_assoc, unwrap_or, arith, not, inl, zero-add, slice_index_or, filter, enumerate_from, zip, take_at, sum_by-cons, Value, Null, row_fits, and_false, columns_fit}
-use Rattle.roll_core.proofs.Words.{columns_long, row_long, value_weight, Cell, Carry, Make, Still, is_carry, Halves, Kept, lost_columns_in, lost_value, lost_weight, Pair, Agree, IsPair, PairsAreLong}
-use Rattle.roll_core.proofs.Words.{IsFilledRow, is_marked, mark_value, new_half, new_view, old_view, shadow_values, stored_row, FilledBefore, LeftRowsKeep, left_row, left_value, trimmed, trimmed_view}
-use Rattle.roll_core.proofs.Words.{Form, Own, Paired, Left, Trimmed, IsStoredRow, kept, lost_of, stored_values, Below}
+use Rattle.roll_core.proofs.Words.{halves_of, Shape, get_or_append_left, ◌≡◌, ◌∙◌, ◌<◌, ℕ, suc, ℤ, ◌+◌, List, [], ◌∷◌, ◌++◌, true, false, if◌then◌else◌, Option, Some, None, ap, refl, sym, subst}
+use Rattle.roll_core.proofs.Words.{length, map, take, append_assoc, arith, not, inl, zero-add, slice_index_or, filter, enumerate_from, zip, take_at, sum_by-cons, Value, Null, row_fits, and_false}
+use Rattle.roll_core.proofs.Words.{columns_fit, columns_long, row_long, value_weight, Cell, Carry, Make, Still, is_carry, Halves, Kept, lost_columns_in, lost_value, lost_weight, Pair, Agree, IsPair}
+use Rattle.roll_core.proofs.Words.{PairsAreLong, mark_value, new_half, new_view, old_view, shadow_values, stored_row, FilledBefore, LeftRowsKeep, left_row, left_value, trimmed, Form, Own, Paired}
+use Rattle.roll_core.proofs.Words.{Left, Trimmed, IsStoredRow, kept, lost_of, stored_values, Below}
 
 -- ---- which rows can be stored in a form
 
@@ -24,10 +24,10 @@ pub record Alone (row : Kept) : Type 0 where
   pub values : List Value
   pub halves : row.halves ≡ record { old = Some values; new = None }
 
-pub record AloneFits (pair : Pair) (row : Kept) : Type 0 where
+pub record AloneFits (shape : Shape) (row : Kept) : Type 0 where
   pub values : List Value
   pub halves : row.halves ≡ record { old = Some values; new = None }
-  pub fits : row_fits pair.new values ≡ true
+  pub fits : row_fits shape values ≡ true
 
 -- It has both halves, and these agree.
 pub record Together (pair : Pair) (row : Kept) : Type 0 where
@@ -41,8 +41,8 @@ pub record Together (pair : Pair) (row : Kept) : Type 0 where
 abbrev pub Storable : Form → Option (List Value) → Kept → Type 0
 Storable Own before row = Alone row × (row.lost ≡ 0)
 Storable (Paired pair) before row = Together pair row × (row.lost ≡ 0)
-Storable (Left pair) before row = AloneFits pair row × FilledBefore pair before × (row.lost ≡ lost_over pair before)
-Storable (Trimmed pair) before row = AloneFits pair row × (row.lost ≡ 0)
+Storable (Left pair) before row = AloneFits pair.new row × FilledBefore pair before × (row.lost ≡ lost_over pair before)
+Storable (Trimmed pair) before row = AloneFits pair.new row × (row.lost ≡ 0)
 
 -- ---- lost weights
 
@@ -109,49 +109,34 @@ pub record StoresRow (form : Form) (before : Option (List Value)) (row : Kept) :
   pub means : kept form (row.key, values_of form before row) ≡ row
   pub stored : IsStoredRow form (values_of form before row)
 
-unmarked_half : (pair : Pair) (stored new : List Value) → is_marked pair stored ≡ false → new_view pair stored ≡ new → new_half pair stored ≡ Some new
-unmarked_half pair stored new m v = ap (λ b. if b then None else Some (new_view pair stored)) m ∙ ap Some v
+stored_as : (form : Form) (before : Option (List Value)) (row : Kept) (halves : Halves) → row.halves ≡ halves → halves_of form (stored_values form halves before) ≡ halves
+    → lost_of form (stored_values form halves before) ≡ row.lost → IsStoredRow form (stored_values form halves before) → StoresRow form before row
+stored_as form before row halves h made lost is =
+    let stored = stored_values form halves before in
+    let values : values_of form before row ≡ stored = ap (λ (halves : Halves). stored_values form halves before) h in
+    record {
+      means = ap (λ v. kept form (row.key, v)) values ∙ kept_is row.key (halves_of form stored) row.halves (lost_of form stored) row.lost (made ∙ sym h) lost;
+      stored = subst (IsStoredRow form) (sym values) is;
+    }
 
 pub stores_row : Below → (form : Form) (before : Option (List Value)) (row : Kept) → FormStands form → Storable form before row → StoresRow form before row
-stores_row law Own before row p s =
-    let h = s.0.halves in
-    let values : unwrap_or row.halves.old [] ≡ s.0.values = ap (λ (halves : Halves). unwrap_or halves.old []) h in
-    let made : ◌≡◌ {A = Halves} (record { old = Some (unwrap_or row.halves.old []); new = None }) row.halves = ap (λ v. record { old = Some v; new = None }) values ∙ sym h in
-    record { means = kept_is row.key (record { old = Some (unwrap_or row.halves.old []); new = None }) row.halves 0 row.lost made (sym s.1); stored = tt }
+stores_row law Own before row p s = stored_as Own before row (record { old = Some s.0.values; new = None }) s.0.halves refl (sym s.1) tt
 stores_row law (Paired pair) before row p s =
     let t = s.0 in
     let stored = stored_row pair t.old t.new false in
     let held = law.holds pair t.old t.new false p (row_long pair.old t.old t.old_fits) (row_long pair.new t.new t.new_fits) t.agree in
-    let half = unmarked_half pair stored t.new (held.mark ∙ and_false pair.layout.mark) held.new_shown in
+    let half : new_half pair stored ≡ Some t.new = ap (λ b. if b then None else Some (new_view pair stored)) (held.mark ∙ and_false pair.layout.mark) ∙ ap Some held.new_shown in
     let both : ◌≡◌ {A = Halves} (record { old = Some (old_view pair stored); new = new_half pair stored }) (record { old = Some t.old; new = Some t.new }) = rw (held.old_shown, half) refl in
-    let values : values_of (Paired pair) before row ≡ stored = ap (λ (halves : Halves). stored_values (Paired pair) halves before) t.halves in
-    let means : kept (Paired pair) (row.key, stored) ≡ row = kept_is row.key (record { old = Some (old_view pair stored); new = new_half pair stored }) row.halves 0 row.lost (both ∙ sym t.halves) (sym s.1) in
-    record {
-      means = ap (λ v. kept (Paired pair) (row.key, v)) values ∙ means;
-      stored = subst (IsStoredRow (Paired pair)) (sym values) (inl (record { old = t.old; new = t.new; old_fits = columns_fit pair.old t.old t.old_fits; new_fits = columns_fit pair.new t.new t.new_fits; is = refl }));
-    }
+    stored_as (Paired pair) before row (record { old = Some t.old; new = Some t.new }) t.halves both (sym s.1)
+    (inl (record { old = t.old; new = t.new; old_fits = columns_fit pair.old t.old t.old_fits; new_fits = columns_fit pair.new t.new t.new_fits; is = refl }))
 stores_row law (Left pair) before row p s =
     let a = s.0 in
-    let stored = left_row pair.lens a.values before in
     let shown = (law.shown pair a.values before p a.fits).0 in
     let lost = left_lost law.long law.kept pair a.values before p s.1 in
-    let made : ◌≡◌ {A = Halves} (record { old = Some (new_view pair stored); new = None }) row.halves = ap (λ v. record { old = Some v; new = None }) shown ∙ sym a.halves in
-    let values : values_of (Left pair) before row ≡ stored = ap (λ (halves : Halves). stored_values (Left pair) halves before) a.halves in
-    let means : kept (Left pair) (row.key, stored) ≡ row = kept_is row.key (record { old = Some (new_view pair stored); new = None }) row.halves (lost_of (Left pair) stored) row.lost made (lost ∙ sym s.2) in
-    record {
-      means = ap (λ v. kept (Left pair) (row.key, v)) values ∙ means;
-      stored = subst (IsFilledRow pair) (sym values) (law.filled pair a.values before p a.fits s.1);
-    }
+    stored_as (Left pair) before row (record { old = Some a.values; new = None }) a.halves (ap (λ v. record { old = Some v; new = None }) shown) (lost ∙ sym s.2) (law.filled pair a.values before p a.fits s.1)
 stores_row law (Trimmed pair) before row p s =
     let a = s.0 in
     let left = left_row pair.lens a.values None in
-    let stored = trimmed pair.lens left in
     let there = law.shown pair a.values None p a.fits in
-    let shown : trimmed_view pair.lens stored ≡ a.values = law.trims pair left p there.1 ∙ there.0 in
-    let made : ◌≡◌ {A = Halves} (record { old = Some (trimmed_view pair.lens stored); new = None }) row.halves = ap (λ v. record { old = Some v; new = None }) shown ∙ sym a.halves in
-    let values : values_of (Trimmed pair) before row ≡ stored = ap (λ (halves : Halves). stored_values (Trimmed pair) halves before) a.halves in
-    let means : kept (Trimmed pair) (row.key, stored) ≡ row = kept_is row.key (record { old = Some (trimmed_view pair.lens stored); new = None }) row.halves 0 row.lost made (sym s.1) in
-    record {
-      means = ap (λ v. kept (Trimmed pair) (row.key, v)) values ∙ means;
-      stored = subst (IsStoredRow (Trimmed pair)) (sym values) (law.trimmed pair left p (law.filled pair a.values None p a.fits tt));
-    }
+    let shown = law.trims pair left p there.1 ∙ there.0 in
+    stored_as (Trimmed pair) before row (record { old = Some a.values; new = None }) a.halves (ap (λ v. record { old = Some v; new = None }) shown) (sym s.1) (law.trimmed pair left p (law.filled pair a.values None p a.fits tt))

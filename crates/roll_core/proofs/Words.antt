@@ -1,5 +1,5 @@
 -- The words of the proofs, for the heads of their files.
-pub use Rattle.std.proofs.Common.{Bool, Bor, Equal, Err, Greater, Less, List, None, Ok, OnErr, Option, Ordering, Result, Some, [], add-one, ap, append_assoc, arith, cond, drop, false, filter, find, if◌then◌else◌, inl, inr, int_cmp, int_eq, is_some, le_of_eq, length, map, min, nat_eq, nat_lt, not, option_and_then, option_map, refl, rules, subst, suc, sym, take, true, unwrap_or, zero, zero-add, ℕ, ℤ, ◌&&◌, ◌++◌, ◌+◌, ◌-◌, ◌<◌, ◌==◌, ◌^◌, ◌||◌, ◌∙◌, ◌∷◌, ◌≡◌, ◌≤◌, ◌⊎◌}
+pub use Rattle.std.proofs.Common.{Bool, Bor, Equal, Err, Greater, Less, List, None, Ok, OnErr, Option, Ordering, Result, Some, [], add-one, ap, append_assoc, arith, cond, drop, false, filter, find, if◌then◌else◌, inl, inr, int_cmp, int_eq, is_some, le_of_eq, length, map, min, nat_eq, nat_lt, not, option_and_then, option_map, refl, rules, subst, suc, sym, take, true, zero, zero-add, ℕ, ℤ, ◌&&◌, ◌++◌, ◌+◌, ◌-◌, ◌<◌, ◌==◌, ◌^◌, ◌||◌, ◌∙◌, ◌∷◌, ◌≡◌, ◌≤◌, ◌⊎◌}
 pub use Rattle.std.proofs.lemmas.Bool.Decides.{Decides-int_eq, nat_tests}
 pub use Rattle.std.proofs.lemmas.Grind.{common_steps}
 pub use Rattle.std.proofs.lemmas.List.{get_or-take, get_or_append_left, length-map, map-id, map-set, nil_from_length, take_at}
@@ -37,7 +37,7 @@ pub use Rattle.mig_lens.specs.Lens.{IsWellFormed, fits, is_carried_from, is_carr
 pub use Rattle.mig_lens.specs.declared.columns.Cell.TheVariants.{Carry, Make, Still}
 pub use Rattle.mig_lens.specs.declared.faults.Refusal.TheVariants.{NotFilled, Unfinished}
 pub use Rattle.phase_steps.specs.Laws.{FilledBefore, LeftRowsKeep}
-pub use Rattle.phase_steps.specs.Rows.{left_row, left_value, trimmed, trimmed_view}
+pub use Rattle.phase_steps.specs.Rows.{left_row, left_value, trimmed}
 pub use Rattle.row_rules.specs.Accept.{clashes, has_key, is_taken, key_cause, keys_of, sound, times, total_weight, wrong}
 pub use Rattle.row_rules.specs.Causes.{heavy_statement, max_reply, max_total, row_error, taken_key, value_cause}
 pub use Rattle.row_rules.specs.Changes.{after_change, after_changes, altered, altered_halves, altered_row, cause_together, changes, filled_row, keys_changed, matching, new_keys_cause, new_row, passes, put_all as put_each, put_row, refused_together, remade, row_passed, rows_put}
@@ -70,7 +70,7 @@ pub use Rattle.roll_core.specs.Engine.{command_outcome, event_of, first_stored}
 pub use Rattle.roll_core.specs.Running.{Comes, FormSuits, IsSite, IsStatement, LeftBy, RowsStored, Runs, SameForms, accepted, job_reach, meant, numbers_in, refused_all, reply_of, stored_count, too_many, too_many_error}
 pub use Rattle.roll_core.specs.Seen.{parts, row_count as own_count, seen}
 pub use Rattle.roll_core.specs.Stepping.{AreKept, AreRun, Goes, begun_parts, begun_form, begun_frame, begun_table, former_by, former_of, invalid_in, left_by, left_form, left_frame, left_parts, left_table, lost_by, lost_columns, may_not_complete, not_filled_in, startable, stepped_row, stepped_values, tidied_form, tidied_number, tidied_parts, tidied_table}
-pub use Rattle.roll_core.specs.Store.{FormerStands, HasFormer, IsStored, IsStoredRow, IsStoredTable, Stored, StoredRow, StoredTable, both_again, calm_form, form_in, former_pair, kept, lost_columns_by, lost_of, meaning, over_pair, pair_over, rows_meant, stored_values, table_meant}
+pub use Rattle.roll_core.specs.Store.{halves_of, FormerStands, HasFormer, IsStored, IsStoredRow, IsStoredTable, Stored, StoredRow, StoredTable, both_again, calm_form, form_in, former_pair, kept, lost_columns_by, lost_of, meaning, over_pair, pair_over, rows_meant, stored_values, table_meant}
 pub use Rattle.roll_core.specs.declared.changing.StoredChange.{StoredChange}
 pub use Rattle.roll_core.specs.declared.commands.Cmd.{Cmd}
 pub use Rattle.roll_core.specs.declared.commands.Cmd.TheVariants.{Start}

@@ -1,14 +1,16 @@
 -- A statement that writes: its rows are stored as they are made, or it is refused as it is refused.
-use Rattle.roll_core.proofs.Words.{◌≡◌, ◌∙◌, List, [], ◌∷◌, false, Option, Some, None, Ok, is_some, map, ap, refl, sym, subst, Each, every, Value, Change, Put, Remove, Job, Kept, has_key, key_cause}
+use Rattle.roll_core.proofs.Words.{ℕ, StoredTable, OwnTable, with_rows, after_changes, meant, slice_set, changed, SameForms, RowsStored, RemovedIsLeftOut, Runs, seen, rows_meant, table_meant, ◌≡◌}
+use Rattle.roll_core.proofs.Words.{◌∙◌, List, [], ◌∷◌, false, Option, Some, None, Ok, is_some, map, ap, refl, sym, subst, Each, every, Value, Change, Put, Remove, Job, Kept, has_key, key_cause}
 use Rattle.roll_core.proofs.Words.{changes, new_keys_cause, new_row, rows_put, Site, number_of, shape_of, State, JobStands, OfPut, TableStands, IsState, Found, lost_columns_of, rows_of, site_of, Rows}
 use Rattle.roll_core.proofs.Words.{Form, FormSuits, IsStatement, IsStoredRow, kept, lost_columns_by, Below}
 use Rattle.roll_core.proofs.Words.finite
 use Rattle.roll_core.proofs.Words.job
-use Rattle.roll_core.proofs.Rows.{Stores, has_key-stored}
+use Rattle.roll_core.proofs.Tables.{IsRead, all_at, all_set, each_of, rows_of-read, same_forms, with_rows-set}
+use Rattle.roll_core.proofs.Rows.{changes_meant, changes_stored, Stores, has_key-stored}
 use Rattle.roll_core.proofs.Counted.{fresh, rows_are, rows_put-all, Fresh}
 use Rattle.roll_core.proofs.Fitting.{Weighs, WeighsOver, new_weighs, older_weigh}
 use Rattle.roll_core.proofs.Jobs.{job_stores, stored_agree, stored_sites}
-use Rattle.roll_core.proofs.Made.{Placed}
+use Rattle.roll_core.proofs.Made.{Placed, of_put}
 
 none_there : {X : Type 0} (o : Option X) → is_some o ≡ false → o ≡ None
 none_there None h = refl
@@ -22,9 +24,7 @@ fresh_weigh form rows site (row ∷ new) f p =
     (subst (λ before. WeighsOver form before row.lost) (sym none) p.0.weighs, fresh_weigh form rows site new f.1 p.1)
 
 pub placed_weigh : (form : Form) (rows : Rows) (site : Site) (all : List Change) → Each (OfPut (Placed (Weighs form rows) site)) all → Each (OfPut (λ row. Weighs form rows row.key row.lost)) all
-placed_weigh form rows site [] h = tt
-placed_weigh form rows site (Put row ∷ all) h = (h.0.weighs, placed_weigh form rows site all h.1)
-placed_weigh form rows site (Remove key ∷ all) h = (tt, placed_weigh form rows site all h.1)
+placed_weigh form rows site all h = each_of (of_put (λ row (p : Placed (Weighs form rows) site row). p.weighs)) all h
 
 -- The rows that a statement's job puts are new ones of new keys, where it puts new rows and none is refused.
 pub new_fresh : (site : Site) (rows : List (List Value)) (older : List Kept) (all : List Change) → changes site (job.Put rows) older ≡ Ok all → new_keys_cause site (job.Put rows) older all ≡ None → (new : List Kept) × (map Put new ≡ all) × Fresh older new
@@ -50,3 +50,22 @@ statement_stores law s found is stands form rows suits lost stored same (job.Rem
     let older = map (kept form) (finite.entries rows) in
     job_stores law s found is stands form rows suits (job.Remove condition) tt j older (stored_sites law.rows law.on_site s found is stands older same) (stored_agree law.long s (number_of found.table) form suits (finite.entries rows)) (Weighs form rows) tt all e (placed_weigh form rows (site_of s found) all)
 statement_stores law s found is stands form rows suits lost stored same job.Fill w j all e none = absurd w
+
+-- What changes leave that are stored so, of the table at a place.
+pub record Leaves (frame : State) (tables : List StoredTable) (at number : ℕ) (table : OwnTable) (all : List Change) : Type 0 where
+  pub after : with_rows (meant frame tables) number (after_changes all (rows_of (meant frame tables) number)) ≡ meant frame (slice_set tables at (changed all table))
+  pub forms : SameForms tables (slice_set tables at (changed all table))
+  pub stored : Each RowsStored (slice_set tables at (changed all table))
+
+pub leaves : RemovedIsLeftOut → (frame : State) (tables : List StoredTable) (at number : ℕ) (table : OwnTable) → Runs frame tables → IsRead tables at number (seen table) → (all : List Change)
+    → Each (Stores table.form table.rows.rows) all → Leaves frame tables at number table all
+leaves law frame tables at number table runs read all stores =
+    let older = rows_meant (seen table) in
+    let numbered = ap (λ (n : ℕ). (n, rows_meant (changed all table))) read.numbered in
+    let is : table_meant (changed all table) ≡ (number, after_changes all older) = numbered ∙ ap (λ (rows : List Kept). (number, rows)) (changes_meant law table.form table.rows.rows all stores) in
+    record {
+      after = ap (λ rows. with_rows (meant frame tables) number (after_changes all rows)) (rows_of-read frame tables at number (seen table) runs.stands read)
+          ∙ with_rows-set frame tables at number (after_changes all older) (seen table) (changed all table) runs.stands read is;
+      forms = same_forms tables at (seen table) (changed all table) read.here refl refl;
+      stored = all_set RowsStored tables at (changed all table) runs.rows (changes_stored law table.form table.rows.rows all stores (all_at RowsStored tables at (seen table) runs.rows read.here));
+    }

@@ -12,8 +12,8 @@ ghost use Rattle.roll_core.specs.Stepping as spec;
 ghost use Rattle.roll_core.specs.Store as model;
 
 use crate::forms::Form;
-use crate::stepping::stepped_rows;
 use crate::laws::laws_below;
+use crate::stepping::stepped_rows;
 use crate::store::{Former, StoredTable};
 use machine::parts::{lens_among, not_valid, shared, table_on};
 use machine::{Mode, Reply, State};

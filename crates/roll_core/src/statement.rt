@@ -9,8 +9,8 @@ ghost use Rattle.machine.specs.Statement as statement;
 ghost use Rattle.roll_core.specs.Running as spec;
 ghost use Rattle.roll_core.specs.Seen.{seen};
 
-use crate::reach::shown_reached;
 use crate::laws::laws_below;
+use crate::reach::shown_reached;
 use crate::store::StoredTable;
 use crate::writing::written;
 use machine::parts::{BegunRef, begun, error_reply};

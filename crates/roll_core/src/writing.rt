@@ -12,9 +12,9 @@ ghost use Rattle.roll_core.specs.Seen.{row_count, seen};
 ghost use Rattle.roll_core.specs.Store.{rows_meant};
 
 use crate::changing::put_changes;
+use crate::laws::laws_below;
 use crate::reach::changes_reached;
 use crate::statement::place_of;
-use crate::laws::laws_below;
 use crate::store::StoredTable;
 use machine::parts::{MAX_ROWS, error_reply, row_reply, too_many_rows, written_reply};
 use machine::{Reply, State};

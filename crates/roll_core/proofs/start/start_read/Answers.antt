@@ -22,7 +22,7 @@ returns c =
     let started = λ (former : Option Former). starts c.laws_below.ensures frame former tables m c.in-Ok.plan c.requires by in
     record {
       goes = λ former. subst (Goes (parts frame former c.args.tables.now.items) (start_read s m) (Ok (reply_of.Start c.in_ok-copy.field-0))) (sym (is former))
-      (rw c.in_ok-copy.ensures (started former).0);
+          (rw c.in_ok-copy.ensures (started former).0);
       stored = λ former. (c.in-Ok.plan, (startable_ok s m c.in-Ok.plan by).1, is former);
       changes = refl;
       kept = λ former k. subst AreKept (sym (is former)) ((started former).1 k);
