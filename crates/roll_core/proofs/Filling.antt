@@ -10,7 +10,7 @@ use Rattle.roll_core.proofs.Rows.{Stores}
 use Rattle.roll_core.proofs.Fitting.{Weighs, older_weigh}
 use Rattle.roll_core.proofs.Jobs.{job_stores, stored_agree, stored_sites}
 use Rattle.roll_core.proofs.Outcomes.{err_by, map_fault_ok, ok_by, without_ok}
-use Rattle.roll_core.proofs.Missing.{each_left, each_taken, first_missing}
+use Rattle.roll_core.proofs.Missing.{each_left, each_taken, first_rows}
 use Rattle.roll_core.proofs.Tables.{IsRead, all_at, got_mapped, rows_of-read, suits_meant}
 use Rattle.roll_core.proofs.Written.{leaves, placed_weigh}
 
@@ -38,7 +38,7 @@ taken s number n both rows is e ascend =
     ap (λ (o : Option Shared). option_map_or {U = CommandOutcome} (λ pair. batch s pair (rows_at (take n (missing_keys s number)) (rows_of s number))) o (Ok (answered s Filled))) is
     ∙ ap (λ keys. batch s both (rows_at (take n keys) (rows_of s number))) keys
     ∙ ap (λ rows. batch s both (rows_at (take n (keys_missing rows)) rows)) e
-    ∙ ap (batch s both) (first_missing n rows ascend)
+    ∙ ap (batch s both) (first_rows is_missing n rows ascend)
 
 -- ---- where nothing changes
 
@@ -73,12 +73,12 @@ stores law frame tables at n f runs all e =
     let got = got_mapped seen tables at f.table f.here in
     let suits = subst (λ k. FormSuits s k form) (sym there.0) (suits_meant frame (map seen tables) f.table.number form (all_at (λ table. FormSuits frame table.number table.form) (map seen tables) at (seen f.table) runs.forms got)) in
     let stored = all_at RowsStored (map seen tables) at (seen f.table) runs.rows got in
-    let read = rows_of-read frame (map seen tables) at f.table.number (seen f.table) runs.stands (record { here = got; numbered = refl }) in
+    let read = rows_of-read law frame (map seen tables) at f.table.number (seen f.table) runs.stands (record { here = got; numbered = refl }) in
     let is = ap (rows_of s) there.0 ∙ read in
     let some : (P : Kept → Type 0) → Each P (map (kept form) rows) → Each P (take n (filter is_missing (map (kept form) rows))) = λ P h. each_taken P n (filter is_missing (map (kept form) rows)) (each_left P is_missing (map (kept form) rows) h) in
     job_stores law s found runs.stands there.1 form f.table.rows.rows suits job.Fill refl tt (take n (filter is_missing (map (kept form) rows)))
     (some (SiteRow (λ lost. Unit {0}) (site_of s found)) (stored_sites law.rows law.on_site s found runs.stands there.1 (map (kept form) rows) is))
-    (λ both h. some (λ row. HalvesAgree both.lens row.halves) (stored_agree law.storing.long s (number_of f.both.new) form suits rows both h))
+    (λ both h. some (λ row. HalvesAgree both.lens row.halves) (stored_agree law.long s (number_of f.both.new) form suits rows both h))
     (Weighs form f.table.rows.rows) (some (λ row. Weighs form f.table.rows.rows row.key row.lost) (older_weigh form f.table.rows.rows stored)) all e (placed_weigh form f.table.rows.rows (site_of s found) all)
 
 pub filled : Below → (frame : State) (tables : List OwnTable) (at n : ℕ) (f : Filling frame tables at) → Runs frame (map seen tables) → (result : Result Reply (Stop Reply)) (new : List StoredTable) → FillsThrough (filling_site frame f.both) job.Fill at n tables result new → Fills frame (map seen tables) (batch_at frame (map seen tables) (Some at) n) result new
@@ -97,7 +97,7 @@ filled law frame tables at n f runs result new h = by_result result h
     read = record { here = got_mapped seen tables at f.table f.here; numbered = sym (law.filling s f.table.number f.both runs.stands f.shares).0 }
 
     there : rows_of s (number_of f.both.new) ≡ rows
-    there = rows_of-read frame (map seen tables) at (number_of f.both.new) (seen f.table) runs.stands read
+    there = rows_of-read law frame (map seen tables) at (number_of f.both.new) (seen f.table) runs.stands read
 
     is : batch_at frame (map seen tables) (Some at) n ≡ and_then (made s f.both n rows) (λ all. without (refused_as s f.both rows all) (changed_by s site job.Fill all))
     is =
@@ -111,7 +111,7 @@ filled law frame tables at n f runs result new h = by_result result h
     put : (reply : Reply) (all : List Change) → batch_changes site job.Fill rows n ≡ Ok all → reply ≡ written_reply site job.Fill all → new ≡ slice_set (map seen tables) at (changed all f.table) → Fills frame (map seen tables) (batch_at frame (map seen tables) (Some at) n) (Ok reply) new
     put reply all e told now =
         let stored = stores law frame tables at n f runs all (made_by (refused_batch (name_of f.both.new)) (changes site job.Fill (take n (filter is_missing rows))) (refused_as s f.both rows) all e) in
-        let left = leaves law.removed frame (map seen tables) at (number_of f.both.new) f.table runs read all stored in
+        let left = leaves law frame (map seen tables) at (number_of f.both.new) f.table runs read all stored in
         let outcome = is ∙ ok_by (made s f.both n rows) (refused_as s f.both rows) (changed_by s site job.Fill) all e in
         record {
           answers = (changed_by s site job.Fill all, ap as_outcome outcome, told, sym (left.after ∙ ap (meant frame) (sym now)), λ leaves. let is : leaves_all (written_reply site job.Fill all) ≡ true = ap leaves_all (sym told) ∙ leaves in cc);

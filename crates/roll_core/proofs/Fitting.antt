@@ -1,12 +1,13 @@
 -- The rows that a job puts can be stored in the form of their table.
 use Rattle.roll_core.proofs.Words.{◌≡◌, ◌∙◌, ℕ, ℤ, List, [], ◌∷◌, Bool, true, false, Option, Some, None, is_some, cond, int_cmp, Ordering, Less, Equal, Greater, map, ap, refl, sym, subst, option_map}
-use Rattle.roll_core.proofs.Words.{option_and_then, T, int_eq_equiv, is_sorted, below_all, Each, eq_by_cmp, is_eq, is_lt, row_fits, some_same, Value, Table, table_numbered, Halves, Kept, Beside}
-use Rattle.roll_core.proofs.Words.{number_of, shape_of, Rows, Calm, State, HalvesAgree, PairStands, SiteRow, TableStands, may_miss_beside, new_table_by, table_by, HalfStands, NewStands, Found, Shared}
-use Rattle.roll_core.proofs.Words.{beside_on, lens_between, newer_schema, shared, site_of, table_on, New, Old, Side, FilledBefore, Pair, Form, Own, Paired, Left, Trimmed, FormSuits, LeftBy}
-use Rattle.roll_core.proofs.Words.{IsStoredRow, StoredRow, kept, lost_columns_by, pair_over}
+use Rattle.roll_core.proofs.Words.{option_and_then, T, int_eq_equiv, is_sorted, below_all, Each, eq_by_cmp, is_eq, is_lt, some_same, Value, Table, table_numbered, Halves, Kept, Beside, number_of}
+use Rattle.roll_core.proofs.Words.{shape_of, Rows, Calm, State, HalvesAgree, PairStands, SiteRow, TableStands, may_miss_beside, new_table_by, table_by, HalfStands, NewStands, Found, Shared, beside_on}
+use Rattle.roll_core.proofs.Words.{lens_between, newer_schema, shared, site_of, table_on, New, Old, Side, FilledBefore, Pair, Form, Own, Paired, Left, Trimmed, FormSuits, LeftBy, IsStoredRow}
+use Rattle.roll_core.proofs.Words.{StoredRow, kept, lost_columns_by, pair_over}
 use Rattle.roll_core.proofs.Words.finite
 use Rattle.std.specs.FinMap.{find}
 use Rattle.roll_core.proofs.Made.{HasNew}
+use Rattle.roll_core.proofs.Runs.{no_lens, shared_of}
 use Rattle.roll_core.proofs.Stepped.{split}
 use Rattle.roll_core.proofs.Storing.{AloneFits, FormStands, Storable, Together, lost_over}
 
@@ -90,11 +91,7 @@ calm_side s m Old number table e = refl
 calm_side s m New number table e = let none : table_on s New number ≡ None = ap (λ mode. option_and_then (λ schema. table_numbered schema number) (newer_schema mode)) m in cc
 
 pub calm_shared : (s : State) (number : ℕ) → s.mode ≡ Calm → shared s number ≡ None
-calm_shared s number m = ap (λ mode. option_and_then (λ old. option_and_then (λ new. option_map {U = Shared} (λ lens. record { old = old; new = new; lens = lens }) (lens_between mode number)) (option_and_then (λ schema. table_numbered schema number) (newer_schema mode))) (table_on s Old number)) m ∙ by_table (table_on s Old number)
-  where
-    by_table : (o : Option Table) → option_and_then {U = Shared} (λ (old : Table). None) o ≡ None
-    by_table None = refl
-    by_table (Some old) = refl
+calm_shared s number m = ap (λ mode. shared_of (lens_between mode number) (option_and_then (λ schema. table_numbered schema number) (newer_schema mode)) (table_on s Old number)) m ∙ no_lens None (table_on s Old number)
 
 calm_has : (s : State) (found : Found) → s.mode ≡ Calm → TableStands s found → (row : Kept) → SiteRow (λ lost. Unit {0}) (site_of s found) row → AloneFits (shape_of found.table) row
 calm_has s found m stands row r =
@@ -112,9 +109,9 @@ both_site : (side : Side) (here : Table) (both : Shared) (row : Kept) → (side 
 both_site Old here both row o n ho hn = record { old = subst (λ (t : Table). HalfStands (Some t) row.key row.halves.old) (sym (o refl)) ho; new = hn }
 both_site New here both row o n ho hn = record { old = ho; new = subst (λ (t : Table). NewStands (may_miss_beside (Some (beside_on New both))) (Some t) row.key row.halves.new) (sym (n refl)) hn }
 
-new_stands : (may : Bool) (table : Table) (key : ℤ) (values : List Value) → NewStands may (Some table) key (Some values) → row_fits (shape_of table) values ≡ true
-new_stands true table key values h = h.0
-new_stands false table key values h = h.0
+pub new_stands : (may : Bool) (table : Table) (key : ℤ) (values : List Value) → NewStands may (Some table) key (Some values) → HalfStands (Some table) key (Some values)
+new_stands true table key values h = h
+new_stands false table key values h = h
 
 together : (both : Shared) (row : Kept) → BothHave both row → is_some row.halves.new ≡ true → HalvesAgree both.lens row.halves → Together (pair_over both) row
 together both row h some agree = by_halves row.halves.old row.halves.new refl refl h.old h.new some
@@ -127,7 +124,7 @@ together both row h some agree = by_halves row.halves.old row.halves.new refl re
       new = new;
       halves = halves_are row.halves (Some old) (Some new) eo en;
       old_fits = ho.0;
-      new_fits = new_stands (may_miss_beside (Some (beside_on Old both))) both.new row.key new hn;
+      new_fits = (new_stands (may_miss_beside (Some (beside_on Old both))) both.new row.key new hn).0;
       agree = λ i at c. agree old new i at eo en c;
     }
 

@@ -44,9 +44,9 @@ pair_agrees long pair p row old new i j o n c =
     ∙ sym (get_or-take (length pair.old.columns) row j Null few) ∙ ap (λ xs. slice_index_or xs j Null) was
 
 -- The rows that are stored agree so.
-older_agree : PairsAreLong → (s : State) (number : ℕ) (form : Form) → FormSuits s number form → (both : Shared) → shared s number ≡ Some both → (rows : List StoredRow) → Each (λ row. HalvesAgree both.lens row.halves) (map (kept form) rows)
-older_agree long s number form suits both is [] = tt
-older_agree long s number form suits both is (row ∷ rows) = (by_form form suits, older_agree long s number form suits both is rows)
+pub stored_agree : PairsAreLong → (s : State) (number : ℕ) (form : Form) → FormSuits s number form → (rows : List StoredRow) (both : Shared) → shared s number ≡ Some both → Each (λ row. HalvesAgree both.lens row.halves) (map (kept form) rows)
+stored_agree long s number form suits [] both is = tt
+stored_agree long s number form suits (row ∷ rows) both is = (by_form form suits, stored_agree long s number form suits rows both is)
   where
     no_pair : s.mode ≡ Calm → ⊥
     no_pair m = let none = calm_shared s number m in cc
@@ -108,9 +108,6 @@ job_stores law s found is stands form rows suits what side job older sites agree
     subst (λ lens. Each (ChangeAgrees lens) all) (lens_beside found.side both)
     (law.agree site (beside_on found.side both) what older all (site_stands law s found is stands) (ap (option_map (beside_on found.side)) h) (subst (λ lens. Each (λ row. HalvesAgree lens row.halves) older) (sym (lens_beside found.side both)) (agree both h)) e) in
     each_stores law s found stands pairs form rows suits all made (each_of (of_put (λ row (p : Placed P site row). p.has_new)) all placed) agrees (weighs placed)
-
-pub stored_agree : PairsAreLong → (s : State) (number : ℕ) (form : Form) → FormSuits s number form → (rows : List StoredRow) (both : Shared) → shared s number ≡ Some both → Each (λ row. HalvesAgree both.lens row.halves) (map (kept form) rows)
-stored_agree long s number form suits rows both is = older_agree long s number form suits both is rows
 
 pub stored_sites : RowsStandBy → RowsOnSites → (s : State) (found : Found) → IsState s → TableStands s found → (rows : List Kept) → rows_of s (number_of found.table) ≡ rows → Each (SiteRow (λ lost. Unit {0}) (site_of s found)) rows
 stored_sites by law s found is stands rows e = rows_each law s found is stands rows (subst (RowsStand s (number_of found.table)) e (by s (number_of found.table) is).1)

@@ -30,8 +30,8 @@ valid_same frame all table r = ap (λ (rows : List Kept). option_and_then (λ ne
 abbrev RowsAre : State → List StoredTable → List StoredTable → Type 0
 RowsAre frame all tables = AllByRecursion (λ table. rows_of (meant frame all) table.number ≡ rows_meant table) tables
 
-rows_are : (frame : State) (all : List StoredTable) → IsState (meant frame all) → RowsAre frame all all
-rows_are frame all stands = each_place (λ table. rows_of (meant frame all) table.number ≡ rows_meant table) all (λ at table e. rows_of-read frame all at table.number table stands (record { here = e; numbered = refl }))
+rows_are : Below → (frame : State) (all : List StoredTable) → IsState (meant frame all) → RowsAre frame all all
+rows_are law frame all stands = each_place (λ table. rows_of (meant frame all) table.number ≡ rows_meant table) all (λ at table e. rows_of-read law frame all at table.number table stands (record { here = e; numbered = refl }))
 
 filled_all : (frame : State) (all tables : List StoredTable) → RowsAre frame all tables → migrate.not_filled (meant frame all) (numbers_in tables) ≡ first_some (not_filled_in frame) tables
 filled_all frame all [] h = refl
@@ -42,10 +42,10 @@ valid_all frame all [] h = refl
 valid_all frame all (table ∷ tables) h = ap (λ o. option_or o (migrate.invalid (meant frame all) (numbers_in tables))) (valid_same frame all table h.0) ∙ ap (option_or (invalid_in frame table)) (valid_all frame all tables h.1)
 
 -- What is looked at in place is what the machine looks at.
-pub may_same : (frame : State) (tables : List StoredTable) → IsState (meant frame tables) → migrate.may_not_complete (meant frame tables) ≡ may_not_complete frame tables
-may_same frame tables stands =
+pub may_same : Below → (frame : State) (tables : List StoredTable) → IsState (meant frame tables) → migrate.may_not_complete (meant frame tables) ≡ may_not_complete frame tables
+may_same law frame tables stands =
     let s = meant frame tables in
-    let rows = rows_are frame tables stands in
+    let rows = rows_are law frame tables stands in
     ap (λ ns. option_or (migrate.not_filled s ns) (option_map not_valid (migrate.invalid s ns))) (numbers_of-meant frame tables)
     ∙ ap (λ o. option_or o (option_map not_valid (migrate.invalid s (numbers_in tables)))) (filled_all frame tables tables rows)
     ∙ ap (λ o. option_or (first_some (not_filled_in frame) tables) (option_map not_valid o)) (valid_all frame tables tables rows)
@@ -202,7 +202,7 @@ is_finished law frame former tables name schema fates m stored may =
     let s = meant frame tables in
     let newer : NewerStands s name schema fates = subst (ModeStands s) m stored.stands.mode in
     let none = (either_none (first_some (not_filled_in frame) tables) (option_map not_valid (first_some (invalid_in frame) tables)) may).0 in
-    let filled = ap (migrate.not_filled s) (numbers_of-meant frame tables) ∙ filled_all frame tables tables (rows_are frame tables stored.stands) ∙ none in
+    let filled = ap (migrate.not_filled s) (numbers_of-meant frame tables) ∙ filled_all frame tables tables (rows_are law frame tables stored.stands) ∙ none in
     let new = law.halves s name schema fates stored.stands m filled in
     let parts : Stored = record { frame = frame; former = former; tables = tables } in
     let stay = each_place (Stays frame tables schema fates) tables (λ at table e. stays_at parts name schema fates m stored.stands at table e
@@ -240,11 +240,11 @@ complete_by s kind.Rollback = Err (Unfinished kind.Rollback)
 complete_is : (s : State) (name : List ℕ) (schema : Schema) (fates : List (ℕ × Fate)) → s.kind ≡ kind.Nothing → s.mode ≡ Both name schema fates → complete s ≡ without (migrate.may_not_complete s) (stepped 1 (completed s name schema fates))
 complete_is s name schema fates k m = ap (complete_by s) k ∙ ap (finish s) m
 
-pub finish_refused : (frame : State) (tables : List StoredTable) (refusal : Refusal) → IsState (meant frame tables) → frame.kind ≡ kind.Nothing → migrate.inactive frame.mode ≡ None → may_not_complete frame tables ≡ Some refusal → complete (meant frame tables) ≡ Err refusal
-finish_refused frame tables refusal stands k a h =
+pub finish_refused : Below → (frame : State) (tables : List StoredTable) (refusal : Refusal) → IsState (meant frame tables) → frame.kind ≡ kind.Nothing → migrate.inactive frame.mode ≡ None → may_not_complete frame tables ≡ Some refusal → complete (meant frame tables) ≡ Err refusal
+finish_refused law frame tables refusal stands k a h =
     let s = meant frame tables in
     let active = is_active frame.mode a in
-    complete_is s active.name active.schema active.fates k active.is ∙ ap (λ may. without may (stepped 1 (completed s active.name active.schema active.fates))) (may_same frame tables stands ∙ h)
+    complete_is s active.name active.schema active.fates k active.is ∙ ap (λ may. without may (stepped 1 (completed s active.name active.schema active.fates))) (may_same law frame tables stands ∙ h)
 
 -- The first step goes as the machine's does.
 pub finishes : Below → (stored : Stored) → IsStored stored → stored.frame.kind ≡ kind.Nothing → migrate.inactive stored.frame.mode ≡ None → may_not_complete stored.frame stored.tables ≡ None
@@ -254,5 +254,5 @@ finishes law stored is k a may =
     let active = is_active stored.frame.mode a in
     let done = is_finished law stored.frame stored.former stored.tables active.name active.schema active.fates active.is is may in
     let step = stepped 1 (completed s active.name active.schema active.fates) in
-    let outcome = complete_is s active.name active.schema active.fates k active.is ∙ ap (λ may. without may step) (may_same stored.frame stored.tables is.stands ∙ may) in
+    let outcome = complete_is s active.name active.schema active.fates k active.is ∙ ap (λ may. without may step) (may_same law stored.frame stored.tables is.stands ∙ may) in
     ((step, outcome, refl, done.means), done.kept)

@@ -126,7 +126,7 @@ placed P site key lost row p r = record { weighs = subst (λ k. P k row.lost) (s
 put_made : (Q : Kept → Type 0) (r : Result (List Kept) Cause) (all : List Change) → ((rows : List Kept) → r ≡ Ok rows → Each Q rows) → put_all r ≡ Ok all → Each (OfPut Q) all
 put_made Q r all h e =
     let step = and_then_ok r (λ rows. Ok (map Put rows)) all e in
-    subst (Each (OfPut Q)) (ok_same (map Put step.0) all step.2) (each_mapped Put (λ row q. q) step.0 (h step.0 step.1))
+    subst (Each (OfPut Q)) (ok_same (map Put step.0) all step.2) (each_mapped Put _ (λ row q. q) step.0 (h step.0 step.1))
 
 pub changes_placed : (P : ℤ → ℕ → Type 0) (site : Site) (what : Job) (older : List Kept) (all : List Change) → SideOf site what → PutBy P site what older → changes site what older ≡ Ok all → Each (OfPut (Placed P site)) all
 changes_placed P site (job.Put rows) older all side kept h =
@@ -139,7 +139,7 @@ changes_placed P site (job.Alter sets condition) older all side kept h =
     every_made (altered_row site sets) (λ row. P row.key row.lost) (Placed P site) (λ row made p m. placed P site row.key row.lost made p (altered_is site sets row made m)) step.0 new (matching_each (λ row. P row.key row.lost) site condition older step.0 kept step.1) step.2) h
 changes_placed P site (job.Remove condition) older all side kept h =
     let step = and_then_ok (matching site condition older) (λ rows. Ok (map (λ row. Remove row.key) rows)) all h in
-    subst (Each (OfPut (Placed P site))) (ok_same (map (λ (row : Kept). Remove row.key) step.0) all step.2) (each_mapped (λ (row : Kept). Remove row.key) (λ row u. u) step.0 (each_all {P = λ row. Unit {0}} (λ row. tt) step.0))
+    subst (Each (OfPut (Placed P site))) (ok_same (map (λ (row : Kept). Remove row.key) step.0) all step.2) (each_mapped (λ (row : Kept). Remove row.key) _ (λ row u. u) step.0 (each_all {P = λ row. Unit {0}} (λ row. tt) step.0))
 changes_placed P site job.Fill older all side kept h =
     put_made (Placed P site) (every (map (filled_row site) older)) all
     (λ new e. every_made (filled_row site) (λ row. P row.key row.lost) (Placed P site) (λ row made p m. placed P site row.key row.lost made p (filled_is site side row made m)) older new kept e) h

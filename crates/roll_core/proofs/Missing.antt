@@ -1,28 +1,28 @@
 -- The first rows that are still to be filled, and the first table that has any.
-use Rattle.roll_core.proofs.Words.{int_eq_equiv, arith, ◌≡◌, ◌∙◌, ℕ, zero, suc, ℤ, List, [], ◌∷◌, Bool, true, false, ◌||◌, if◌then◌else◌, length, map, nat_lt, take, filter, ap, refl, sym, subst}
-use Rattle.roll_core.proofs.Words.{int_cmp, int_eq, Less, Each, list_any, is_eq, nat_tests, int_cmp_total, Kept, rows_at, is_missing, Ascends, keys_missing, slice_get-get_or, ◌<◌, Option, Some, None}
-use Rattle.roll_core.proofs.Words.{find, drop, option_map, option_and_then, slice_get, slice_index_or, option_map_or, option_or, length-map, either_none, some_same, Calm, State, bad_batch, first_of}
-use Rattle.roll_core.proofs.Words.{has_missing, inactive, may_not_fill, steps_left, unfilled_tables, Shared, missing_keys, rows_of, shared, Form, Own, Paired, Left, Trimmed, FirstUnfilled}
+use Rattle.roll_core.proofs.Words.{Below, int_eq_equiv, arith, ◌≡◌, ◌∙◌, ℕ, zero, suc, ℤ, List, [], ◌∷◌, Bool, true, false, ◌||◌, if◌then◌else◌, length, map, nat_lt, take, filter, ap, refl, sym}
+use Rattle.roll_core.proofs.Words.{subst, int_cmp, int_eq, Less, Each, list_any, is_eq, nat_tests, int_cmp_total, Kept, rows_at, is_missing, Ascends, keys_missing, slice_get-get_or, ◌<◌, Option, Some}
+use Rattle.roll_core.proofs.Words.{None, find, drop, option_map, option_and_then, slice_get, slice_index_or, option_map_or, option_or, length-map, either_none, some_same, Calm, State, bad_batch}
+use Rattle.roll_core.proofs.Words.{first_of, has_missing, inactive, may_not_fill, steps_left, unfilled_tables, Shared, missing_keys, rows_of, shared, Form, Own, Paired, Left, Trimmed, FirstUnfilled}
 use Rattle.roll_core.proofs.Words.{is_unfilled, number_at, OwnTable, FormSuits, Runs, meant, seen, StoredTable, rows_meant, table_meant}
 use Rattle.roll_core.proofs.Tables.{all_at, each_place, got_mapped, rows_of-read}
 
 -- ---- the rows of the first keys
 
 -- The key is less than each of these rows'.
-abbrev Below : ℤ → List Kept → Type 0
-Below key rows = Each (λ row. int_cmp key row.key ≡ Less) rows
+abbrev IsBelow : ℤ → List Kept → Type 0
+IsBelow key rows = Each (λ row. int_cmp key row.key ≡ Less) rows
 
-below_more : (key other : ℤ) (rows : List Kept) → int_cmp key other ≡ Less → Below other rows → Below key rows
+below_more : (key other : ℤ) (rows : List Kept) → int_cmp key other ≡ Less → IsBelow other rows → IsBelow key rows
 below_more key other [] h b = tt
 below_more key other (row ∷ rows) h b = (int_cmp_total.trans key other row.key h b.0, below_more key other rows h b.1)
 
-rest_below : (row : Kept) (rows : List Kept) → Ascends (row ∷ rows) → Below row.key rows × Ascends rows
+rest_below : (row : Kept) (rows : List Kept) → Ascends (row ∷ rows) → IsBelow row.key rows × Ascends rows
 rest_below row [] h = (tt, tt)
 rest_below row (next ∷ rows) h =
     let there = rest_below next rows h.1 in
     ((h.0, below_more row.key next.key rows h.0 there.0), h.1)
 
-key_absent : (p : Kept → Bool) (key : ℤ) (n : ℕ) (rows : List Kept) → Below key rows → list_any (int_eq key) (take n (map (λ row. row.key) (filter p rows))) ≡ false
+key_absent : (p : Kept → Bool) (key : ℤ) (n : ℕ) (rows : List Kept) → IsBelow key rows → list_any (int_eq key) (take n (map (λ row. row.key) (filter p rows))) ≡ false
 key_absent p key zero [] b = refl
 key_absent p key (suc n) [] b = refl
 key_absent p key n (row ∷ rows) b = by_test (p row) n (key_absent p key n rows b.1) (λ m. key_absent p key m rows b.1)
@@ -33,7 +33,7 @@ key_absent p key n (row ∷ rows) b = by_test (p row) n (key_absent p key n rows
     by_test false n there each = there
 
 -- rows behind a key aren't of this key
-skipped : (q : Kept → Bool) (key : ℤ) (rows : List Kept) → Below key rows → filter (λ row. int_eq row.key key || q row) rows ≡ filter q rows
+skipped : (q : Kept → Bool) (key : ℤ) (rows : List Kept) → IsBelow key rows → filter (λ row. int_eq row.key key || q row) rows ≡ filter q rows
 skipped q key [] b = refl
 skipped q key (row ∷ rows) b = by_test (int_eq row.key key) (q row) (int_eq_equiv.symm row.key key ∙ ap is_eq b.0) (skipped q key rows b.1)
   where
@@ -51,7 +51,7 @@ none_left [] = refl
 none_left (row ∷ rows) = none_left rows
 
 -- The rows of the first keys of those that pass are the first rows that do.
-first_rows : (p : Kept → Bool) (n : ℕ) (rows : List Kept) → Ascends rows → rows_at (take n (map (λ row. row.key) (filter p rows))) rows ≡ take n (filter p rows)
+pub first_rows : (p : Kept → Bool) (n : ℕ) (rows : List Kept) → Ascends rows → rows_at (take n (map (λ row. row.key) (filter p rows))) rows ≡ take n (filter p rows)
 first_rows p zero rows h = ap (λ keys. rows_at keys rows) (none_taken (map (λ row. row.key) (filter p rows))) ∙ none_left rows ∙ sym (none_taken (filter p rows))
 first_rows p (suc n) [] h = refl
 first_rows p (suc n) (row ∷ rows) h =
@@ -64,15 +64,12 @@ first_rows p (suc n) (row ∷ rows) h =
     left : List Kept
     left = filter (λ other. int_eq other.key row.key || list_any (int_eq other.key) (take n keys)) rows
 
-    by_test : (b : Bool) → list_any (int_eq row.key) (take (suc n) keys) ≡ false → rows_at (take n keys) rows ≡ take n (filter p rows) → rows_at (take (suc n) keys) rows ≡ take (suc n) (filter p rows) → Below row.key rows
+    by_test : (b : Bool) → list_any (int_eq row.key) (take (suc n) keys) ≡ false → rows_at (take n keys) rows ≡ take n (filter p rows) → rows_at (take (suc n) keys) rows ≡ take (suc n) (filter p rows) → IsBelow row.key rows
         → rows_at (take (suc n) (map (λ row. row.key) (if b then row ∷ filter p rows else filter p rows))) (row ∷ rows) ≡ take (suc n) (if b then row ∷ filter p rows else filter p rows)
     by_test true absent less same below =
         ap (λ b. if b || list_any (int_eq row.key) (take n keys) then row ∷ left else left) (int_eq_equiv.refl row.key)
         ∙ ap (λ left. row ∷ left) (skipped (λ other. list_any (int_eq other.key) (take n keys)) row.key rows below ∙ less)
     by_test false absent less same below = ap (λ b. if b then row ∷ rows_at (take (suc n) keys) rows else rows_at (take (suc n) keys) rows) absent ∙ same
-
-pub first_missing : (n : ℕ) (rows : List Kept) → Ascends rows → rows_at (take n (keys_missing rows)) rows ≡ take n (filter is_missing rows)
-first_missing n rows h = first_rows is_missing n rows h
 
 -- ---- whether there is any
 
@@ -117,18 +114,13 @@ suits_shared s number (Trimmed pair) h live = absurd (live h.calm)
 abbrev Tells : State → StoredTable → Type 0
 Tells s table = has_missing s table.number ≡ is_unfilled table
 
-tells : (frame : State) (tables : List StoredTable) → Runs frame tables → ¬ (frame.mode ≡ Calm) → Each (Tells (meant frame tables)) tables
-tells frame tables runs live = each_place (Tells s) tables one
-  where
-    s : State
-    s = meant frame tables
-
-    one : (at : ℕ) (table : StoredTable) → slice_get tables at ≡ Some table → Tells s table
-    one at table e =
-        let both = suits_shared frame table.number table.form (all_at (λ table. FormSuits frame table.number table.form) tables at table runs.forms e) live in
-        let rows = rows_of-read frame tables at table.number table runs.stands (record { here = e; numbered = refl }) in
-        let keys : missing_keys s table.number ≡ keys_missing (rows_of s table.number) = ap (λ (o : Option Shared). option_map_or (λ pair. keys_missing (rows_of s table.number)) o []) both.1 in
-        ap (λ keys. nat_lt 0 (length keys)) keys ∙ ap (λ rows. nat_lt 0 (length (keys_missing rows))) rows ∙ any_left (rows_meant table)
+tells : Below → (frame : State) (tables : List StoredTable) → Runs frame tables → ¬ (frame.mode ≡ Calm) → Each (Tells (meant frame tables)) tables
+tells law frame tables runs live = each_place (Tells (meant frame tables)) tables (λ at table e.
+    let s = meant frame tables in
+    let both = suits_shared frame table.number table.form (all_at (λ table. FormSuits frame table.number table.form) tables at table runs.forms e) live in
+    let rows = rows_of-read law frame tables at table.number table runs.stands (record { here = e; numbered = refl }) in
+    let keys : missing_keys s table.number ≡ keys_missing (rows_of s table.number) = ap (λ (o : Option Shared). option_map_or (λ pair. keys_missing (rows_of s table.number)) o []) both.1 in
+    ap (λ keys. nat_lt 0 (length keys)) keys ∙ ap (λ rows. nat_lt 0 (length (keys_missing rows))) rows ∙ any_left (rows_meant table))
 
 first_number : (s : State) (tables : List StoredTable) → Each (Tells s) tables → first_of (filter (has_missing s) (map (λ table. table.0) (map table_meant tables))) ≡ option_map (λ table. table.number) (find is_unfilled tables)
 first_number s [] h = refl
@@ -148,9 +140,9 @@ found_first tables None h = ap (option_map (λ (table : StoredTable). table.numb
 found_first tables (Some at) h = ap (option_map (λ (table : StoredTable). table.number)) h.1
 
 -- The first table that has a row to be filled is at the place that was found.
-pub first_table : (frame : State) (tables : List StoredTable) (n : ℕ) (first : Option ℕ) → Runs frame tables → may_not_fill (meant frame tables) n ≡ None → FirstUnfilled tables first → first_of (unfilled_tables (meant frame tables)) ≡ option_and_then (number_at tables) first
-first_table frame tables n first runs may h =
-    first_number (meant frame tables) tables (tells frame tables runs (active (meant frame tables) n may)) ∙ found_first tables first h
+pub first_table : Below → (frame : State) (tables : List StoredTable) (n : ℕ) (first : Option ℕ) → Runs frame tables → may_not_fill (meant frame tables) n ≡ None → FirstUnfilled tables first → first_of (unfilled_tables (meant frame tables)) ≡ option_and_then (number_at tables) first
+first_table law frame tables n first runs may h =
+    first_number (meant frame tables) tables (tells law frame tables runs (active (meant frame tables) n may)) ∙ found_first tables first h
 
 -- ---- the loop
 

@@ -1,5 +1,5 @@
 -- What an outcome of several parts says of each.
-use Rattle.roll_core.proofs.Words.{option_map, ◌≡◌, Option, Some, None, Result, Ok, Err, ap, refl, subst, and_then, and_then_ok, guarded, map_fault, ok_same, without}
+use Rattle.roll_core.proofs.Words.{◌∙◌, option_map, ◌≡◌, Option, Some, None, Result, Ok, Err, ap, refl, subst, and_then, and_then_ok, guarded, map_fault, ok_same, without}
 
 pub none_mapped : {X Y : Type 0} (f : X → Y) (o : Option X) → option_map f o ≡ None → o ≡ None
 none_mapped f None e = refl
@@ -22,7 +22,7 @@ pub ok_by : {T U E : Type 0} (r : Result T E) (o : T → Option E) (done : T →
 ok_by r o done x h =
     let step = and_then_ok r (λ y. without (o y) y) x h in
     let made = without_ok (o step.0) step.0 x step.2 in
-    subst (λ x. and_then r (λ y. without (o y) (done y)) ≡ Ok (done x)) made.1 (rw (step.1, made.0) refl)
+    subst (λ x. and_then r (λ y. without (o y) (done y)) ≡ Ok (done x)) made.1 (ap (λ q. and_then q (λ y. without (o y) (done y))) step.1 ∙ ap (λ f. without f (done step.0)) made.0)
 
 pub err_by : {T U E : Type 0} (r : Result T E) (o : T → Option E) (done : T → U) (fault : E) → and_then r (λ y. without (o y) y) ≡ Err fault → and_then r (λ y. without (o y) (done y)) ≡ Err fault
 err_by {T} {U} {E} (Ok y) o done fault h = by_fault (o y) h

@@ -8,6 +8,7 @@ use Rattle.roll_core.proofs.Words.job
 use Rattle.row_rules.specs.InReach as reach
 use Rattle.std.specs.FinMap.{find}
 use Rattle.roll_core.proofs.Begun.{stands_there}
+use Rattle.roll_core.proofs.Fitting.{new_stands}
 use Rattle.roll_core.proofs.Jobs.{site_stands, stored_sites}
 use Rattle.roll_core.proofs.Stepped.{is_less, split}
 use Rattle.roll_core.proofs.Tables.{IsRead, each_of, rows_of-read}
@@ -59,11 +60,7 @@ new_has : (here : Table) (there : Option Beside) (key : ℤ) (old new : Option (
 new_has here None key old None b o n = absurd n
 new_has here None key old (Some values) b o n = half_has here key (Some values) n
 new_has here (Some beside) key old None b o n = record { half = half_has beside.table key old o; carried = b.well_formed.new_key }
-new_has here (Some beside) key old (Some values) b o n = half_has here key (Some values) (by_mark (has_mark beside.lens) n)
-  where
-    by_mark : (may : Bool) → NewStands may (Some here) key (Some values) → HalfStands (Some here) key (Some values)
-    by_mark true h = h
-    by_mark false h = h
+new_has here (Some beside) key old (Some values) b o n = half_has here key (Some values) (new_stands (has_mark beside.lens) here key values n)
 
 side_stands : (side : Side) (here : Table) (there : Option Beside) (row : Kept) → BesideStands side here there → HalfStands (table_by side here there) row.key row.halves.old
     → NewStands (may_miss_beside there) (new_table_by side here there) row.key row.halves.new → SideStands side here there row
@@ -76,5 +73,5 @@ rows_show law frame tables at table site runs there = subst (λ site. IsRead tab
     let s = meant frame tables in
     let found = there.0 in
     let stands = stands_there frame tables found there.2 in
-    let rows = stored_sites law.rows law.on_site s found runs.stands stands (rows_meant table) (rows_of-read frame tables at (number_of found.table) table runs.stands read) in
+    let rows = stored_sites law.rows law.on_site s found runs.stands stands (rows_meant table) (rows_of-read law frame tables at (number_of found.table) table runs.stands read) in
     law.keys (site_of s found) (rows_meant table) (each_of (λ (row : Kept) r. side_stands found.side found.table (site_of s found).there row (site_stands law s found runs.stands stands).beside r.old r.new) (rows_meant table) rows))

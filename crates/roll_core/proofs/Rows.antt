@@ -2,7 +2,7 @@
 use Rattle.roll_core.proofs.Words.{Bor, ◌≡◌, ◌∙◌, ℤ, List, [], ◌∷◌, Bool, true, false, ◌||◌, not, Option, Some, None, is_some, int_cmp, int_eq, Ordering, Less, Equal, Greater, ap, refl, sym, length}
 use Rattle.roll_core.proofs.Words.{map, filter, cond, put, picked, where_key, int_eq_equiv, AllByRecursion, list_any, option_copied, eq_by_cmp, match_ordering, length-map, Value, Kept, put_row, Rows}
 use Rattle.roll_core.proofs.Words.{Form, StoredRow, kept, arith, ◌≤◌, ◌+◌, ℕ, subst, int_cmp_total, Change, Put, Remove, after_change, after_changes, OfPut, RemovedIsLeftOut, StoredChange, put_all}
-use Rattle.roll_core.proofs.Words.{put_stored, rows_after, stored_change, IsStoredRow}
+use Rattle.roll_core.proofs.Words.{put_stored, stored_change, IsStoredRow}
 use Rattle.roll_core.proofs.Words.finite
 use Rattle.roll_core.proofs.Storing.{StoresRow}
 
@@ -106,13 +106,10 @@ one_meant : RemovedIsLeftOut → (form : Form) (before : Rows) (change : Change)
 one_meant law form before (Put row) rows s = ap (map (kept form)) (finite.entries-insert int_cmp_total rows row.key _) ∙ put-meant form row _ s.means (finite.entries rows)
 one_meant law form before (Remove key) rows s = ap (map (kept form)) (law rows key) ∙ removed-meant form key (finite.entries rows)
 
-all_meant : RemovedIsLeftOut → (form : Form) (before : Rows) (changes : List Change) (rows : Rows) → AllByRecursion (Stores form before) changes → map (kept form) (finite.entries (put_all (map (stored_change form before) changes) rows)) ≡ after_changes changes (map (kept form) (finite.entries rows))
+pub all_meant : RemovedIsLeftOut → (form : Form) (before : Rows) (changes : List Change) (rows : Rows) → AllByRecursion (Stores form before) changes → map (kept form) (finite.entries (put_all (map (stored_change form before) changes) rows)) ≡ after_changes changes (map (kept form) (finite.entries rows))
 all_meant law form before [] rows s = refl
 all_meant law form before (change ∷ changes) rows s =
     all_meant law form before changes (put_stored (stored_change form before change) rows) s.1 ∙ ap (after_changes changes) (one_meant law form before change rows s.0)
-
-pub changes_meant : RemovedIsLeftOut → (form : Form) (rows : Rows) (changes : List Change) → AllByRecursion (Stores form rows) changes → map (kept form) (finite.entries (rows_after form changes rows)) ≡ after_changes changes (map (kept form) (finite.entries rows))
-changes_meant law form rows changes s = all_meant law form rows changes rows s
 
 -- ---- how they are stored
 
@@ -120,9 +117,6 @@ one_stored : RemovedIsLeftOut → (form : Form) (before : Rows) (change : Change
 one_stored law form before (Put row) rows s h = subst (AllByRecursion (λ row. IsStoredRow form row.1)) (sym (finite.entries-insert int_cmp_total rows row.key _)) (put_all_hold (IsStoredRow form) row.key _ s.stored (finite.entries rows) h)
 one_stored law form before (Remove key) rows s h = subst (AllByRecursion (λ row. IsStoredRow form row.1)) (sym (law rows key)) (removed_all_hold (IsStoredRow form) key (finite.entries rows) h)
 
-all_stored : RemovedIsLeftOut → (form : Form) (before : Rows) (changes : List Change) (rows : Rows) → AllByRecursion (Stores form before) changes → AllByRecursion (λ row. IsStoredRow form row.1) (finite.entries rows) → AllByRecursion (λ row. IsStoredRow form row.1) (finite.entries (put_all (map (stored_change form before) changes) rows))
+pub all_stored : RemovedIsLeftOut → (form : Form) (before : Rows) (changes : List Change) (rows : Rows) → AllByRecursion (Stores form before) changes → AllByRecursion (λ row. IsStoredRow form row.1) (finite.entries rows) → AllByRecursion (λ row. IsStoredRow form row.1) (finite.entries (put_all (map (stored_change form before) changes) rows))
 all_stored law form before [] rows s h = h
 all_stored law form before (change ∷ changes) rows s h = all_stored law form before changes (put_stored (stored_change form before change) rows) s.1 (one_stored law form before change rows s.0 h)
-
-pub changes_stored : RemovedIsLeftOut → (form : Form) (rows : Rows) (changes : List Change) → AllByRecursion (Stores form rows) changes → AllByRecursion (λ row. IsStoredRow form row.1) (finite.entries rows) → AllByRecursion (λ row. IsStoredRow form row.1) (finite.entries (rows_after form changes rows))
-changes_stored law form rows changes s h = all_stored law form rows changes rows s h

@@ -20,7 +20,7 @@ shared_parts (Some lens) (Some new) (Some old) both h =
     let same = some_same (record { old = old; new = new; lens = lens }) both h in
     (ap (λ (b : Shared). Some b.old) same, ap (λ (b : Shared). Some b.new) same, ap (λ (b : Shared). Some b.lens) same)
 
-no_lens : (new old : Option Table) → shared_of None new old ≡ None
+pub no_lens : (new old : Option Table) → shared_of None new old ≡ None
 no_lens new None = refl
 no_lens None (Some old) = refl
 no_lens (Some new) (Some old) = refl

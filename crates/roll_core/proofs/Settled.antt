@@ -17,7 +17,7 @@ use Rattle.roll_core.proofs.Counted.{new_count, removed_count, rows_are, same_co
 use Rattle.roll_core.proofs.Fitting.{sorted_found}
 use Rattle.roll_core.proofs.Made.{Placed, changes_placed}
 use Rattle.roll_core.proofs.Outcomes.{guarded_ok, map_fault_ok, none_mapped}
-use Rattle.roll_core.proofs.Tables.{IsRead, all_at, count_seen, count_set, row_count-meant, rows_of-read, suits_meant}
+use Rattle.roll_core.proofs.Tables.{IsRead, all_at, count_seen, count_set, count_meant, rows_of-read, suits_meant}
 use Rattle.roll_core.proofs.Written.{leaves, new_fresh, statement_stores}
 
 keys_accepted : (site : Site) (what : Job) (older : List Kept) (all : List Change) → refused_together site what older all ≡ None → new_keys_cause site what older all ≡ None
@@ -83,8 +83,8 @@ record Meets (frame : State) (tables : List StoredTable) (at : ℕ) (found : Fou
   said : IsStatement what
   settled : JobStands (shape_of found.table) what
 
-rows_are_read : (frame : State) (tables : List StoredTable) (at : ℕ) (found : Found) (table : OwnTable) (what : Job) → Meets frame tables at found table what → rows_of (meant frame tables) (number_of found.table) ≡ rows_meant (seen table)
-rows_are_read frame tables at found table what m = rows_of-read frame tables at (number_of found.table) (seen table) m.runs.stands m.read
+rows_are_read : Below → (frame : State) (tables : List StoredTable) (at : ℕ) (found : Found) (table : OwnTable) (what : Job) → Meets frame tables at found table what → rows_of (meant frame tables) (number_of found.table) ≡ rows_meant (seen table)
+rows_are_read law frame tables at found table what m = rows_of-read law frame tables at (number_of found.table) (seen table) m.runs.stands m.read
 
 table_stores : Below → (frame : State) (tables : List StoredTable) (at : ℕ) (found : Found) (table : OwnTable) (what : Job) → Meets frame tables at found table what → (all : List Change) → changes (site_of frame found) what (rows_meant (seen table)) ≡ Ok all → refused_together (site_of frame found) what (rows_meant (seen table)) all ≡ None → Each (Stores table.form table.rows.rows) all
 table_stores law frame tables at found table what m all e none =
@@ -92,25 +92,25 @@ table_stores law frame tables at found table what m all e none =
     let suits = subst (λ n. FormSuits frame n table.form) m.read.numbered (all_at (λ (t : StoredTable). FormSuits frame t.number t.form) tables at (seen table) m.runs.forms m.read.here) in
     let lost = subst (λ n. lost_columns_of frame n ≡ lost_columns_by table.form) m.read.numbered (all_at (λ (t : StoredTable). lost_columns_of frame t.number ≡ lost_columns_by t.form) tables at (seen table) m.runs.lost m.read.here) in
     statement_stores law (meant frame tables) found m.runs.stands (stands_there frame tables found m.stands) table.form table.rows.rows (suits_meant frame tables number table.form suits) lost
-    (all_at RowsStored tables at (seen table) m.runs.rows m.read.here) (rows_are_read frame tables at found table what m) what m.said m.settled all e (keys_accepted (site_of frame found) what (rows_meant (seen table)) all none)
+    (all_at RowsStored tables at (seen table) m.runs.rows m.read.here) (rows_are_read law frame tables at found table what m) what m.said m.settled all e (keys_accepted (site_of frame found) what (rows_meant (seen table)) all none)
 
 too_many-is : Below → (frame : State) (tables : List StoredTable) (at : ℕ) (found : Found) (table : OwnTable) (what : Job) → Meets frame tables at found table what → (all : List Change) → Each (Stores table.form table.rows.rows) all → CountsBy what (finite.len table.rows.rows) (finite.len (rows_after table.form all table.rows.rows)) all
     → statement.too_many (meant frame tables) (site_of frame found) all ≡ too_many_error (stored_count tables) what all
 too_many-is law frame tables at found table what m all stores counts =
     let new = slice_set tables at (changed all table) in
     let sum : row_count (with_rows (meant frame tables) (number_of found.table) (statement.rows_after (meant frame tables) (site_of frame found) all)) ≡ stored_count new =
-    ap row_count (leaves law.removed frame tables at (number_of found.table) table m.runs m.read all stores).after ∙ row_count-meant frame new in
+    ap row_count (leaves law frame tables at (number_of found.table) table m.runs m.read all stores).after ∙ count_meant new in
     let both = count_set tables at (seen table) (changed all table) m.read.here in
     let before = finite.len-entries table.rows.rows in
     let after = finite.len-entries (rows_after table.form all table.rows.rows) in
-    let few : stored_count tables ≤ max_rows = subst (λ n. n ≤ max_rows) (row_count-meant frame tables) m.runs.stands.few in
+    let few : stored_count tables ≤ max_rows = subst (λ n. n ≤ max_rows) (count_meant tables) m.runs.stands.few in
     let test = too_many_same what all (stored_count tables) (stored_count new) (finite.len table.rows.rows) (finite.len (rows_after table.form all table.rows.rows)) m.said counts (omega (arith, both, before, after)) few in
     ap (λ n. if nat_lt max_rows n then Some too_many_rows else None) sum ∙ ap (λ b. if◌then◌else◌ {A = Option Reply} b (Some too_many_rows) None) test
 
 refused_same : Below → (frame : State) (tables : List StoredTable) (at : ℕ) (found : Found) (table : OwnTable) (what : Job) → Meets frame tables at found table what → (all : List Change) → changes (site_of frame found) what (rows_meant (seen table)) ≡ Ok all
     → statement.refused_all (meant frame tables) (site_of frame found) what all ≡ refused_all (seen table) (stored_count tables) (site_of frame found) what all
 refused_same law frame tables at found table what m all e =
-    ap (λ rows. option_or (option_map error_reply (refused_together site what rows all)) (statement.too_many (meant frame tables) site all)) (rows_are_read frame tables at found table what m)
+    ap (λ rows. option_or (option_map error_reply (refused_together site what rows all)) (statement.too_many (meant frame tables) site all)) (rows_are_read law frame tables at found table what m)
     ∙ by_cause (refused_together site what older all) refl
   where
     site : Site
@@ -132,7 +132,7 @@ guarded_next (Some fault) x f = refl
 written_is : Below → (frame : State) (tables : List StoredTable) (at : ℕ) (found : Found) (table : OwnTable) (what : Job) → Meets frame tables at found table what
     → statement.written (meant frame tables) (site_of frame found) what ≡ and_then (accepted (seen table) (stored_count tables) (site_of frame found) what) (λ all. Ok (statement.changed (meant frame tables) (site_of frame found) what all))
 written_is law frame tables at found table what m =
-    ap (λ rows. and_then (map_fault (λ cause. error_reply (row_error cause)) (changes site what rows)) (statement.settled s site what)) (rows_are_read frame tables at found table what m)
+    ap (λ rows. and_then (map_fault (λ cause. error_reply (row_error cause)) (changes site what rows)) (statement.settled s site what)) (rows_are_read law frame tables at found table what m)
     ∙ by_changes (changes site what (rows_meant (seen table))) refl
   where
     s : State
@@ -151,7 +151,7 @@ accepted_parts table count site what all e =
     let of = λ (cause : Cause). error_reply (row_error cause) in
     let step = and_then_ok (map_fault of (changes site what (rows_meant table))) (λ all. guarded (refused_all table count site what all) (Ok all)) all e in
     let made = map_fault_ok of (changes site what (rows_meant table)) step.0 step.1 in
-    let parts = guarded_ok (refused_all table count site what step.0) step.0 all step.2 in
+    let parts = guarded_ok (refused_all table count site what step.0) (Ok step.0) all step.2 in
     let none = none_mapped error_reply (refused_together site what (rows_meant table) step.0) (either_none (option_map error_reply (refused_together site what (rows_meant table) step.0)) (too_many_error count what step.0) parts.0).0 in
     let same = ok_same step.0 all parts.1 in
     (made ∙ ap Ok same, subst (λ all. refused_together site what (rows_meant table) all ≡ None) same none)
@@ -175,7 +175,7 @@ settled_at law frame tables at found table what m all e =
     let site = site_of frame found in
     let parts = accepted_parts (seen table) (stored_count tables) site what all e in
     let stores = table_stores law frame tables at found table what m all parts.0 parts.1 in
-    let left = leaves law.removed frame tables at (number_of found.table) table m.runs m.read all stores in
+    let left = leaves law frame tables at (number_of found.table) table m.runs m.read all stores in
     record {
       comes = (statement.changed s site what all, written_is law frame tables at found table what m ∙ ap (λ (r : Result (List Change) Reply). and_then r (λ all. Ok (statement.changed s site what all))) e, refl, sym left.after, λ h. let no = sym h ∙ tells site what all m.said in cc);
       forms = left.forms;
@@ -198,7 +198,7 @@ pub record Writing (frame : State) (tables : List StoredTable) (at : ℕ) (table
 
 pub writing_on : Below → (frame : State) (tables : List StoredTable) (at : ℕ) (table : OwnTable) (what : Job) (site : Site) → IsSite frame site → Meeting frame tables at table what site → Writing frame tables at table what site
 writing_on law frame tables at table what site is = subst (λ site. Meeting frame tables at table what site → Writing frame tables at table what site) (sym is.1) (λ m.
-    let meets = record { runs = m.runs; stands = is.2; read = m.read; said = m.said; settled = m.settled } in
+    let meets : Meets frame tables at is.0 table what = record { runs = m.runs; stands = is.2; read = m.read; said = m.said; settled = m.settled } in
     record {
       settles = settled_at law frame tables at is.0 table what meets;
       refuses = λ reply e. written_is law frame tables at is.0 table what meets ∙ ap (λ (r : Result (List Change) Reply). and_then r (λ all. Ok (statement.changed (meant frame tables) (site_of frame is.0) what all))) e;
@@ -209,7 +209,7 @@ writing_on law frame tables at table what site is = subst (λ site. Meeting fram
 -- The number of rows is counted, where they are as few as there may be.
 pub count_is : (frame : State) (own : List OwnTable) (count : ℕ) → IsState (meant frame (map seen own)) → count ≡ min (own_count own) (2 ^ 64 - 1) → (count ≡ stored_count (map seen own)) × (count ≤ 262144)
 count_is frame own count stands e =
-    let few : stored_count (map seen own) ≤ max_rows = subst (λ n. n ≤ max_rows) (row_count-meant frame (map seen own)) stands.few in
+    let few : stored_count (map seen own) ≤ max_rows = subst (λ n. n ≤ max_rows) (count_meant (map seen own)) stands.few in
     let same = count_seen own in
     let is : count ≡ stored_count (map seen own) = omega (arith, few, same, e) in
     (is, subst (λ n. n ≤ 262144) (sym is) few)

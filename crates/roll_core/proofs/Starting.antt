@@ -116,7 +116,7 @@ tables_mean law frame all plan b (table ∷ tables) h =
 
 tables_stored : Below → (frame : State) (name : List ℕ) (former : Option Former) (all : List StoredTable) (plan : Plan) (new : List StoredTable) → Begins frame plan → (tables : List StoredTable) → AllOwn (meant frame all) tables
     → AllByRecursion (IsStoredTable (record { frame = begun_frame frame name plan; former = former; tables = new })) (map (begun_table frame plan) tables)
-tables_stored law frame name former all plan new b tables h = each_mapped (begun_table frame plan) (λ (table : StoredTable) own.
+tables_stored law frame name former all plan new b tables h = each_mapped (begun_table frame plan) _ (λ (table : StoredTable) own.
     let is = is_begun law frame all plan table b own.1 in record { form = refl; lost = none_lost frame table.number b.nothing_lost ∙ sym is.lost; rows = is.rows }) tables h
 
 -- ---- START

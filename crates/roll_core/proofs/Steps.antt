@@ -1,13 +1,11 @@
 -- The engine's calls are steps of the machine, and leave what an engine stores; so does its beginning.
-use Rattle.roll_core.proofs.Words.{◌≡◌, ◌∙◌, ℕ, List, [], ◌∷◌, true, Option, Result, Ok, Err, inl, inr, map, ap, refl, sym, subst, Each, Stop, Because, NoMemory, Event, Reply, State, Nothing, Outcome}
-use Rattle.roll_core.proofs.Words.{after_of, reply_to, wrote_by, StepsKeepLaws, StepsKeepStates, leaves_all, lost_columns_of, LaneStep, Step, may_want, outcome_of, Form, Former, Comes, RowsStored}
-use Rattle.roll_core.proofs.Words.{SameForms, meant, reply_of, IsStored, IsStoredTable, Stored, StoredTable, form_in, lost_columns_by, Refusal, Refused, CommandOutcome, Done, as_outcome, complete}
-use Rattle.roll_core.proofs.Words.{start, ComesTo, Cmd, Start, command_outcome, event_of, AreKept, Goes, meaning, nil_from_length, ◌++◌, None, int_cmp, Value, RunsReachLawful, RunsReachStates}
-use Rattle.roll_core.proofs.Words.{beginning, Rows, Own, first_stored, parts, seen}
+use Rattle.roll_core.proofs.Words.{map, ℕ, Form, OwnTable, ◌≡◌, ◌∙◌, List, [], ◌∷◌, true, Option, Result, Ok, Err, inl, inr, ap, refl, sym, subst, Each, Stop, Because, NoMemory, Event, Reply, State}
+use Rattle.roll_core.proofs.Words.{Nothing, Outcome, after_of, reply_to, wrote_by, StepsKeepLaws, StepsKeepStates, leaves_all, lost_columns_of, LaneStep, Step, may_want, outcome_of, Former, Comes}
+use Rattle.roll_core.proofs.Words.{RowsStored, SameForms, meant, reply_of, IsStored, IsStoredTable, Stored, StoredTable, form_in, lost_columns_by, Refusal, Refused, CommandOutcome, Done, as_outcome}
+use Rattle.roll_core.proofs.Words.{complete, start, ComesTo, Cmd, Start, command_outcome, event_of, AreKept, Goes, meaning, nil_from_length, ◌++◌, None, int_cmp, Value, RunsReachLawful}
+use Rattle.roll_core.proofs.Words.{RunsReachStates, beginning, Rows, Own, first_stored, parts, seen}
 use Rattle.roll_core.specs.declared.commands.Cmd.TheVariants.{Complete}
 use Rattle.roll_core.proofs.Words.finite
-use Rattle.roll_core.proofs.Words.store
-use Rattle.roll_core.specs.declared.store.StoredTable.{StoredTable}
 
 -- ---- the step
 
@@ -37,21 +35,18 @@ said_looks frame old new outcome (Err NoMemory) c h = c
 cons_same : {X : Type 0} (x y : X) (xs ys : List X) → ◌≡◌ {A = List X} (x ∷ xs) (y ∷ ys) → (x ≡ y) × (xs ≡ ys)
 cons_same x y xs ys e = (cc, cc)
 
-pub tables_stored : (old_stored new_stored : Stored) → new_stored.former ≡ old_stored.former → new_stored.frame ≡ old_stored.frame → (old new : List StoredTable) → SameForms old new → Each (IsStoredTable old_stored) old → Each RowsStored new → Each (IsStoredTable new_stored) new
-tables_stored a b f g [] [] s h r = tt
-tables_stored a b f g [] (n ∷ new) s h r = cc
-tables_stored a b f g (o ∷ old) [] s h r = cc
-tables_stored a b f g (o ∷ old) (n ∷ new) s h r =
-    let same = cons_same {X = ℕ × Form} (n.number, n.form) (o.number, o.form) (map {B = ℕ × Form} (λ table. (table.number, table.form)) new) (map {B = ℕ × Form} (λ table. (table.number, table.form)) old) s in
+tables_stored : (frame : State) (former : Option Former) (before after old new : List StoredTable) → SameForms old new → Each (IsStoredTable (record { frame = frame; former = former; tables = before })) old → Each RowsStored new
+    → Each (IsStoredTable (record { frame = frame; former = former; tables = after })) new
+tables_stored frame former before after [] [] s h r = tt
+tables_stored frame former before after [] (n ∷ new) s h r = cc
+tables_stored frame former before after (o ∷ old) [] s h r = cc
+tables_stored frame former before after (o ∷ old) (n ∷ new) s h r =
+    let forms = λ (tables : List StoredTable). map {B = ℕ × Form} (λ table. (table.number, table.form)) tables in
+    let same = cons_same {X = ℕ × Form} (n.number, n.form) (o.number, o.form) (forms new) (forms old) s in
     let number : n.number ≡ o.number = ap (λ (p : ℕ × Form). p.0) same.0 in
-    let form : n.form ≡ o.form = ap (λ (p : ℕ × Form). p.1) same.0 in (
-      record {
-        form = form ∙ h.0.form ∙ ap (λ k. form_in a.former a.frame k) (sym number) ∙ ap (λ (fo : Option Former). form_in fo a.frame n.number) (sym f) ∙ ap (λ (fr : State). form_in b.former fr n.number) (sym g);
-        lost = ap (λ (fr : State). lost_columns_of fr n.number) g ∙ ap (lost_columns_of a.frame) number ∙ h.0.lost ∙ ap lost_columns_by (sym form);
-        rows = r.0;
-      },
-      tables_stored a b f g old new same.1 h.1 r.1,
-    )
+    let form : n.form ≡ o.form = ap (λ (p : ℕ × Form). p.1) same.0 in
+    let lost = ap (lost_columns_of frame) number ∙ h.0.lost ∙ ap lost_columns_by (sym form) in
+    (record { form = form ∙ h.0.form ∙ ap (form_in former frame) (sym number); lost = lost; rows = r.0 }, tables_stored frame former before after old new same.1 h.1 r.1)
 
 -- After a step that leaves the forms it is what an engine stores.
 pub still_stored : StepsKeepStates → StepsKeepLaws → (frame : State) (former : Option Former) (old new : List StoredTable) (event : Event) (reply : Reply)
@@ -62,7 +57,7 @@ still_stored states laws frame former old new event reply is step f r = record {
   stands = states (meant frame old) event reply (meant frame new) step is.stands;
   lawful = laws (meant frame old) event reply (meant frame new) step is.stands is.lawful;
   former = is.former;
-  tables = tables_stored (record { frame = frame; former = former; tables = old }) (record { frame = frame; former = former; tables = new }) refl refl old new f is.tables r;
+  tables = tables_stored frame former old new old new f is.tables r;
 }
 
 -- ---- steps
@@ -102,15 +97,15 @@ still_whole old new stored same = subst IsStored (sym same) stored
 no_rows : (rows : Rows) → rows ≡ finite.empty → finite.entries rows ≡ []
 no_rows rows e = ap finite.entries e ∙ nil_from_length (finite.entries {X = List Value} {R = int_cmp} finite.empty) (sym (finite.len-entries finite.empty) ∙ finite.len-empty int_cmp (List Value))
 
-first_seen : (table : StoredTable) → table.number ≡ 1 → table.form ≡ Own → table.rows.rows ≡ finite.empty → ◌≡◌ {A = store.StoredTable} (seen table) (record { number = 1; form = Own; rows = [] })
+first_seen : (table : OwnTable) → table.number ≡ 1 → table.form ≡ Own → table.rows.rows ≡ finite.empty → ◌≡◌ {A = StoredTable} (seen table) (record { number = 1; form = Own; rows = [] })
 first_seen table n f r = rw (n, f, no_rows table.rows.rows r) refl
 
-pub first_is : (frame s : State) (items before : List StoredTable) (table : StoredTable) → s ≡ beginning → frame ≡ record s { tables = [] } → before ≡ [] → items ≡ before ++ (table ∷ []) → table.number ≡ 1 → table.form ≡ Own → table.rows.rows ≡ finite.empty → parts frame None items ≡ first_stored
+pub first_is : (frame s : State) (items before : List OwnTable) (table : OwnTable) → s ≡ beginning → frame ≡ record s { tables = [] } → before ≡ [] → items ≡ before ++ (table ∷ []) → table.number ≡ 1 → table.form ≡ Own → table.rows.rows ≡ finite.empty → parts frame None items ≡ first_stored
 first_is frame s items before table b f e i n w r =
     let is : frame ≡ record beginning { tables = [] } = f ∙ ap (λ (s : State). record s { tables = [] }) b in
-    let all : items ≡ table ∷ [] = i ∙ ap (λ (ts : List StoredTable). ts ++ (table ∷ [])) e in
+    let all : items ≡ table ∷ [] = i ∙ ap (λ (ts : List OwnTable). ts ++ (table ∷ [])) e in
     ap (λ (fr : State). parts fr None items) is ∙ ap (parts (record beginning { tables = [] }) None) all
-    ∙ ap (λ (t : store.StoredTable). record { frame = record beginning { tables = [] }; former = None; tables = t ∷ [] }) (first_seen table n w r)
+    ∙ ap (λ (t : StoredTable). record { frame = record beginning { tables = [] }; former = None; tables = t ∷ [] }) (first_seen table n w r)
 
 pub first_means : meaning first_stored ≡ beginning
 first_means = refl

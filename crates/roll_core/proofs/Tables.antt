@@ -1,10 +1,10 @@
 -- Stored tables, and the tables of the state that they mean.
-use Rattle.roll_core.proofs.Words.{◌||◌, map-set, slice_get-get_or, slice_get-map, SameForms, FormSuits, Own, Paired, Left, Trimmed, Form, lost_columns_of, arith, Result, Ok, Err, OnErr, ◌+◌, ◌≡◌}
-use Rattle.roll_core.proofs.Words.{◌≤◌, ◌<◌, ◌==◌, ◌∙◌, ℕ, zero, suc, List, [], ◌∷◌, Bool, true, false, Option, Some, find, if◌then◌else◌, length, map, nat_eq, ap, refl, sym, subst, option_map}
+use Rattle.roll_core.proofs.Words.{Below, ◌||◌, map-set, slice_get-get_or, slice_get-map, SameForms, FormSuits, Own, Paired, Left, Trimmed, Form, lost_columns_of, arith, Result, Ok, Err, OnErr, ◌+◌}
+use Rattle.roll_core.proofs.Words.{◌≡◌, ◌≤◌, ◌<◌, ◌==◌, ◌∙◌, ℕ, zero, suc, List, [], ◌∷◌, Bool, true, false, Some, find, if◌then◌else◌, length, map, nat_eq, ap, refl, sym, subst, option_map}
 use Rattle.roll_core.proofs.Words.{option_and_then, le_of_eq, slice_get, slice_index_or, slice_set, sum_by, AllByRecursion, list_all, list_any, option_map_or, nat_tests, length-map, sum_by-cons}
 use Rattle.roll_core.proofs.Words.{Change, both, some_same, Table, table_numbered, Kept, Site, number_of, Mode, Calm, Both, State, numbers_of, IsState, ModeStands, NumbersAscend, newer_schema}
-use Rattle.roll_core.proofs.Words.{row_count, rows_of, table_on, with_rows, New, Old, Side, OwnTable, IsSite, Runs, meant, numbers_in, stored_count, changed, with_changes, own_count, seen}
-use Rattle.roll_core.proofs.Words.{StoredTable, kept, rows_meant, table_meant}
+use Rattle.roll_core.proofs.Words.{rows_of, table_on, with_rows, New, Old, Side, OwnTable, IsSite, Runs, meant, numbers_in, stored_count, changed, with_changes, own_count, seen, StoredTable, kept}
+use Rattle.roll_core.proofs.Words.{rows_meant, table_meant}
 use Rattle.roll_core.proofs.Words.finite
 
 -- ---- elements
@@ -35,9 +35,9 @@ pub each_all : {X : Type 0} {P : X → Type 0} → ((x : X) → P x) → (xs : L
 each_all h [] = tt
 each_all h (x ∷ xs) = (h x, each_all h xs)
 
-pub each_mapped : {X Y : Type 0} {P : X → Type 0} {Q : Y → Type 0} (f : X → Y) → ((x : X) → P x → Q (f x)) → (xs : List X) → AllByRecursion P xs → AllByRecursion Q (map f xs)
-each_mapped f h [] p = tt
-each_mapped f h (x ∷ xs) p = (h x p.0, each_mapped f h xs p.1)
+pub each_mapped : {X Y : Type 0} {P : X → Type 0} (f : X → Y) (Q : Y → Type 0) → ((x : X) → P x → Q (f x)) → (xs : List X) → AllByRecursion P xs → AllByRecursion Q (map f xs)
+each_mapped f Q h [] p = tt
+each_mapped f Q h (x ∷ xs) p = (h x p.0, each_mapped f Q h xs p.1)
 
 -- The table at a place that was read.
 pub record IsRead (tables : List StoredTable) (at number : ℕ) (table : StoredTable) : Type 0 where
@@ -68,22 +68,11 @@ behind first [] at table a e = cc
 behind first (next ∷ tables) zero table a e = let same : next ≡ table = cc in subst (λ (t : StoredTable). first < t.number) same a.0
 behind first (next ∷ tables) (suc at) table a e = let more = behind next.number tables at table a.1 e in let less = a.0 in omega (arith, more, less)
 
-found_at : (tables : List StoredTable) (at : ℕ) (table : StoredTable) → NumbersAscend (numbers_in tables) → slice_get tables at ≡ Some table → find (λ other. other.0 == table.number) (map table_meant tables) ≡ Some (table_meant table)
-found_at [] at table a e = cc
-found_at (first ∷ tables) zero table a e =
-    let same : first ≡ table = cc in
-    let number : first.number ≡ table.number = ap (λ (t : StoredTable). t.number) same in
-    let is : (first.number == table.number) ≡ true = grind (arith, nat_tests) in
-    rw is (ap (λ t. Some (table_meant t)) same)
-found_at (first ∷ tables) (suc at) table a e =
-    let less = behind first.number tables at table a e in
-    let differ : (first.number == table.number) ≡ false = grind (arith, nat_tests) in
-    rw differ (found_at tables at table (rest_ascends first.number (numbers_in tables) a) e)
-
 -- The rows of the table at a place are those of its number.
-pub rows_of-read : (frame : State) (tables : List StoredTable) (at number : ℕ) (table : StoredTable) → IsState (meant frame tables) → IsRead tables at number table → rows_of (meant frame tables) number ≡ rows_meant table
-rows_of-read frame tables at number table stands r =
-    ap (rows_of (meant frame tables)) (sym r.numbered) ∙ ap (λ (o : Option (ℕ × List Kept)). option_map_or (λ table. table.1) o []) (found_at tables at table (ascend frame tables stands) r.here)
+pub rows_of-read : Below → (frame : State) (tables : List StoredTable) (at number : ℕ) (table : StoredTable) → IsState (meant frame tables) → IsRead tables at number table → rows_of (meant frame tables) number ≡ rows_meant table
+rows_of-read law frame tables at number table stands r =
+    let s = meant frame tables in
+    ap (rows_of s) (sym r.numbered) ∙ all_at (λ (t : ℕ × List Kept). rows_of s t.0 ≡ t.1) s.tables at (table_meant table) (law.own_rows s stands) (got_mapped table_meant tables at table r.here)
 
 -- ---- the table of a site is stored
 
@@ -154,7 +143,7 @@ set_changed tables at d table new changes h e is =
 
 pub same_forms : (tables : List StoredTable) (at : ℕ) (table new : StoredTable) → slice_get tables at ≡ Some table → new.number ≡ table.number → new.form ≡ table.form → SameForms tables (slice_set tables at new)
 same_forms tables at table new e n f =
-    let form = λ (t : StoredTable). (t.number, t.form) in
+    let form : StoredTable → ℕ × Form = λ t. (t.number, t.form) in
     let here : form new ≡ form table = rw (n, f) refl in
     map-set form tables at new ∙ ap (slice_set (map form tables) at) here ∙ set_got (map form tables) at (form table) (got_mapped form tables at table e)
 
@@ -200,7 +189,7 @@ suits_meant frame tables number (Trimmed pair) h = record { calm = h.calm; is_pa
 
 -- ---- the number of rows
 
-count_meant : (tables : List StoredTable) → sum_by (λ table. length table.1) (map table_meant tables) ≡ stored_count tables
+pub count_meant : (tables : List StoredTable) → sum_by (λ table. length table.1) (map table_meant tables) ≡ stored_count tables
 count_meant [] = refl
 count_meant (table ∷ tables) =
     let one = sum_by-cons (λ (table : ℕ × List Kept). length table.1) (table_meant table) (map table_meant tables) in
@@ -208,9 +197,6 @@ count_meant (table ∷ tables) =
     let same = length-map table.rows (kept table.form) in
     let there = count_meant tables in
     omega (arith, one, other, same, there)
-
-pub row_count-meant : (frame : State) (tables : List StoredTable) → row_count (meant frame tables) ≡ stored_count tables
-row_count-meant frame tables = count_meant tables
 
 pub count_seen : (tables : List OwnTable) → stored_count (map seen tables) ≡ own_count tables
 count_seen [] = refl

@@ -62,7 +62,7 @@ same_rows (table ∷ tables) = ap (λ (rows : List Kept). (table.0, rows) ∷ ma
 
 next_stored : (wanted : Kept → Kept) (form : ℕ → Form) (new : Stored) (tables : List StoredTable) → ((number : ℕ) → form number ≡ form_in new.former new.frame number)
     → new.frame.lost_columns ≡ [] → Each (λ table. IsNext wanted (form table.number) table) tables → Each (IsStoredTable new) (map tidied_table tables)
-next_stored wanted form new tables f l h = each_mapped tidied_table
+next_stored wanted form new tables f l h = each_mapped tidied_table _
     (λ (table : StoredTable) is. record { form = is.is_form ∙ f table.number; lost = none_lost new.frame table.number l ∙ sym is.lost; rows = is.rows }) tables h
 
 -- ---- the steps
@@ -142,12 +142,12 @@ tidied_is : (s : State) → s.kind ≡ kind.Complete → complete s ≡ Ok (tidi
 tidied_is s k = rw k refl
 
 reply_by : (two : Bool) (second third : State) → Complete (if two then 2 else 3) ≡ (if two then stepped 2 second else stepped 3 third).reply
-reply_by true second third = refl
-reply_by false second third = refl
+reply_by true a b = refl
+reply_by false a b = refl
 
 after_by : (two : Bool) (second third : State) → (if two then second else third) ≡ (if two then stepped 2 second else stepped 3 third).after
-after_by true second third = refl
-after_by false second third = refl
+after_by true a b = refl
+after_by false a b = refl
 
 pub same_parts : (f g : State) (a b : Option Former) (ts us : List StoredTable) → f ≡ g → a ≡ b → ts ≡ us → ◌≡◌ {A = Stored} (record { frame = f; former = a; tables = ts }) (record { frame = g; former = b; tables = us })
 same_parts f g a b ts us p q r = rw (p, q, r) refl

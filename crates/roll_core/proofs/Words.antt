@@ -86,4 +86,3 @@ pub use Rattle.machine.specs.Plain as plain
 pub use Rattle.machine.specs.declared.events.Reply.TheVariants as reply_of
 pub use Rattle.row_rules.specs.Site as sites
 pub use Rattle.machine.specs.Statement as statement
-pub use Rattle.roll_core.specs.Store as store

@@ -1,12 +1,12 @@
 -- A statement that writes: its rows are stored as they are made, or it is refused as it is refused.
-use Rattle.roll_core.proofs.Words.{ℕ, StoredTable, OwnTable, with_rows, after_changes, meant, slice_set, changed, SameForms, RowsStored, RemovedIsLeftOut, Runs, seen, rows_meant, table_meant, ◌≡◌}
-use Rattle.roll_core.proofs.Words.{◌∙◌, List, [], ◌∷◌, false, Option, Some, None, Ok, is_some, map, ap, refl, sym, subst, Each, every, Value, Change, Put, Remove, Job, Kept, has_key, key_cause}
-use Rattle.roll_core.proofs.Words.{changes, new_keys_cause, new_row, rows_put, Site, number_of, shape_of, State, JobStands, OfPut, TableStands, IsState, Found, lost_columns_of, rows_of, site_of, Rows}
-use Rattle.roll_core.proofs.Words.{Form, FormSuits, IsStatement, IsStoredRow, kept, lost_columns_by, Below}
+use Rattle.roll_core.proofs.Words.{ℕ, StoredTable, OwnTable, with_rows, after_changes, meant, slice_set, changed, SameForms, RowsStored, Runs, seen, rows_meant, table_meant, ◌≡◌, ◌∙◌, List, [], ◌∷◌}
+use Rattle.roll_core.proofs.Words.{false, Option, Some, None, Ok, is_some, map, ap, refl, sym, subst, Each, every, Value, Change, Put, Remove, Job, Kept, has_key, key_cause, changes, new_keys_cause}
+use Rattle.roll_core.proofs.Words.{new_row, rows_put, Site, number_of, shape_of, State, JobStands, OfPut, TableStands, IsState, Found, lost_columns_of, rows_of, site_of, Rows, Form, FormSuits}
+use Rattle.roll_core.proofs.Words.{IsStatement, IsStoredRow, kept, lost_columns_by, Below}
 use Rattle.roll_core.proofs.Words.finite
 use Rattle.roll_core.proofs.Words.job
 use Rattle.roll_core.proofs.Tables.{IsRead, all_at, all_set, each_of, rows_of-read, same_forms, with_rows-set}
-use Rattle.roll_core.proofs.Rows.{changes_meant, changes_stored, Stores, has_key-stored}
+use Rattle.roll_core.proofs.Rows.{all_meant, all_stored, Stores, has_key-stored}
 use Rattle.roll_core.proofs.Counted.{fresh, rows_are, rows_put-all, Fresh}
 use Rattle.roll_core.proofs.Fitting.{Weighs, WeighsOver, new_weighs, older_weigh}
 use Rattle.roll_core.proofs.Jobs.{job_stores, stored_agree, stored_sites}
@@ -57,15 +57,15 @@ pub record Leaves (frame : State) (tables : List StoredTable) (at number : ℕ) 
   pub forms : SameForms tables (slice_set tables at (changed all table))
   pub stored : Each RowsStored (slice_set tables at (changed all table))
 
-pub leaves : RemovedIsLeftOut → (frame : State) (tables : List StoredTable) (at number : ℕ) (table : OwnTable) → Runs frame tables → IsRead tables at number (seen table) → (all : List Change)
+pub leaves : Below → (frame : State) (tables : List StoredTable) (at number : ℕ) (table : OwnTable) → Runs frame tables → IsRead tables at number (seen table) → (all : List Change)
     → Each (Stores table.form table.rows.rows) all → Leaves frame tables at number table all
 leaves law frame tables at number table runs read all stores =
     let older = rows_meant (seen table) in
     let numbered = ap (λ (n : ℕ). (n, rows_meant (changed all table))) read.numbered in
-    let is : table_meant (changed all table) ≡ (number, after_changes all older) = numbered ∙ ap (λ (rows : List Kept). (number, rows)) (changes_meant law table.form table.rows.rows all stores) in
+    let is : table_meant (changed all table) ≡ (number, after_changes all older) = numbered ∙ ap (λ (rows : List Kept). (number, rows)) (all_meant law.removed table.form table.rows.rows all table.rows.rows stores) in
     record {
-      after = ap (λ rows. with_rows (meant frame tables) number (after_changes all rows)) (rows_of-read frame tables at number (seen table) runs.stands read)
+      after = ap (λ rows. with_rows (meant frame tables) number (after_changes all rows)) (rows_of-read law frame tables at number (seen table) runs.stands read)
           ∙ with_rows-set frame tables at number (after_changes all older) (seen table) (changed all table) runs.stands read is;
       forms = same_forms tables at (seen table) (changed all table) read.here refl refl;
-      stored = all_set RowsStored tables at (changed all table) runs.rows (changes_stored law table.form table.rows.rows all stores (all_at RowsStored tables at (seen table) runs.rows read.here));
+      stored = all_set RowsStored tables at (changed all table) runs.rows (all_stored law.removed table.form table.rows.rows all table.rows.rows stores (all_at RowsStored tables at (seen table) runs.rows read.here));
     }

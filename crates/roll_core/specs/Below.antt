@@ -1,6 +1,6 @@
 -- The laws of the layers below that the engine's promises rest on.
 use Rattle.row_rules.specs.InReach.{StandingShowKeys}
-use Rattle.machine.specs.Laws.{ChangesAgree, ChangesKeep, FilledRowsHaveHalves, FillingStands, RowsOnSites, RowsStandBy, SharedStands, ShowsStand, StartsStand, TablesStay, WritesStand}
+use Rattle.machine.specs.Laws.{ChangesAgree, ChangesKeep, FilledRowsHaveHalves, FillingStands, RowsOnSites, RowsStandBy, SharedStands, ShowsStand, StartsStand, TablesHaveTheirRows, TablesStay, WritesStand}
 use Rattle.row_store.specs.Laws.{RemovedIsLeftOut}
 use Rattle.trigger_pair.specs.Laws.{BeginningLeaves, BegunRowsHold, FilledRowsAreLong, PairsAreLong, StoredRowsHold, UnfilledRowsAreBegun}
 use Rattle.phase_steps.specs.Laws.{LeftRowsAreFilled, LeftRowsKeep, LeftRowsShow, TrimmingKeepsView, TrimmingLeavesTrimmed}
@@ -16,6 +16,7 @@ pub record Below : Type 0 where
   pub shared : SharedStands
   pub filling : FillingStands
   pub rows : RowsStandBy
+  pub own_rows : TablesHaveTheirRows
   pub on_site : RowsOnSites
   pub changes : ChangesKeep
   pub agree : ChangesAgree

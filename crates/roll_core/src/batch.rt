@@ -146,6 +146,7 @@ pub fn least_fill(
     ensures forms { spec.SameForms (map seen tables.old) (map seen tables.new) }
     ensures stored { AllByRecursion spec.RowsStored (map seen tables.new) }
 {
+    laws_below();
     if let Some(refusal) = may_not_fill(alloc, frame, n)? {
         return Err(Stop::Because(Reply::Refused(refusal)));
     }

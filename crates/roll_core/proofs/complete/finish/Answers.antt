@@ -9,7 +9,7 @@ pub returns-in-Some-clause-goes : goal.returns-in-Some-clause-goes
 returns-in-Some-clause-goes c =
     let tables = map seen c.args.tables.now.items in
     let may : may_not_complete c.args.frame.now tables ≡ Some c.in-Some.refusal = ap (λ (ts : List StoredTable). may_not_complete c.args.frame.now (map seen ts)) (sym c.deref.ensures.value) ∙ sym c.in_ok-refusal.ensures ∙ c.in-Some.is in
-    (finish_refused c.args.frame.now tables c.in-Some.refusal c.requires.stored.stands c.requires.none c.requires.active may, refl {a = parts c.args.frame.now c.args.former.now c.args.tables.now.items})
+    (finish_refused c.laws_below.ensures c.args.frame.now tables c.in-Some.refusal c.requires.stored.stands c.requires.none c.requires.active may, refl {a = parts c.args.frame.now c.args.former.now c.args.tables.now.items})
 
 pub returns : goal.returns
 returns c =

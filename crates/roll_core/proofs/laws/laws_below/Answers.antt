@@ -10,6 +10,7 @@ returns c = record {
   shared = c.sites_stand.ensures.shared;
   filling = c.sites_stand.ensures.filling;
   rows = c.sites_stand.ensures.rows;
+  own_rows = c.tables_stand.ensures.rows;
   on_site = c.sites_stand.ensures.on_site;
   changes = c.sites_stand.ensures.changes;
   agree = c.carried_columns_agree.ensures;

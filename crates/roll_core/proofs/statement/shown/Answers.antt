@@ -21,7 +21,7 @@ returns-in-Ok c =
     let site = sites.site_of c.args.site in
     let s = meant c.args.frame.now tables in
     let read = read_at c.args.tables.now c.place_of-at.result (sites.number_of site.here) c.index-tables-at.result c.index-tables-at.result c.place_of-at.ensures.within c.place_of-at.ensures.here c.index-tables-at.is in
-    let rows = rows_of-read c.args.frame.now tables c.place_of-at.result (sites.number_of site.here) (seen c.index-tables-at.result) c.requires.runs.stands read in
+    let rows = rows_of-read c.laws_below.ensures c.args.frame.now tables c.place_of-at.result (sites.number_of site.here) (seen c.index-tables-at.result) c.requires.runs.stands read in
     let next = λ (r : Result (List (List Value)) SqlError). and_then (map_fault error_reply r) (λ rows. Ok (answered s (Select rows))) in
     (answered s (Select c.in-Ok.rows), ap (λ (all : List Kept). next (rows_shown site c.args.items.now c.args.condition.now max_reply all)) rows ∙ ap next c.in-Ok.ensures, refl, refl, λ h. refl)
 
@@ -31,7 +31,7 @@ returns-in-Err-Because c =
     let site = sites.site_of c.args.site in
     let s = meant c.args.frame.now tables in
     let read = read_at c.args.tables.now c.place_of-at.result (sites.number_of site.here) c.index-tables-at.result c.index-tables-at.result c.place_of-at.ensures.within c.place_of-at.ensures.here c.index-tables-at.is in
-    let rows = rows_of-read c.args.frame.now tables c.place_of-at.result (sites.number_of site.here) (seen c.index-tables-at.result) c.requires.runs.stands read in
+    let rows = rows_of-read c.laws_below.ensures c.args.frame.now tables c.place_of-at.result (sites.number_of site.here) (seen c.index-tables-at.result) c.requires.runs.stands read in
     let next = λ (r : Result (List (List Value)) SqlError). and_then (map_fault error_reply r) (λ rows. Ok (answered s (Select rows))) in
     let fault : rows_shown site c.args.items.now c.args.condition.now max_reply _ ≡ Err c.in-Err-Because.error = rw c.in-Err-Because.field-0-is at c.in-Err-Because.ensures in
     (ap (λ (all : List Kept). next (rows_shown site c.args.items.now c.args.condition.now max_reply all)) rows ∙ ap next fault ∙ ap Err (sym c.error_reply.ensures), refl)

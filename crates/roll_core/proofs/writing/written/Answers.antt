@@ -17,8 +17,9 @@ accepted_changes-requires-clause-shows c =
     let tables = c.args.tables.now in
     let at = c.place_of-at.result in
     let site = sites.site_of c.args.site in
-    let read = read_at tables at (sites.number_of site.here) c.index-tables-at.result _ c.place_of-at.ensures.within c.place_of-at.ensures.here c.index-tables-at.is in
-    rows_show c.laws_below.ensures c.args.frame.now (map seen tables) at _ site c.requires.runs c.requires.there read
+    let table = slice_index_or tables at c.index-tables-at.result in
+    let read = read_at tables at (sites.number_of site.here) c.index-tables-at.result table c.place_of-at.ensures.within c.place_of-at.ensures.here refl in
+    rows_show c.laws_below.ensures c.args.frame.now (map seen tables) at (seen table) site c.requires.runs c.requires.there read
 
 pub returns-in_err-made-clause-answers : goal.returns-in_err-made-clause-answers
 returns-in_err-made-clause-answers c =
