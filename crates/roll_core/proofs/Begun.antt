@@ -1,9 +1,10 @@
 -- The begin of a statement over a frame is that over the state that it means.
-use Rattle.roll_core.proofs.Words.{Value, Below, ◌≡◌, ◌∙◌, ℕ, List, [], ◌∷◌, Option, Some, None, Result, Ok, Err, ap, refl, sym, subst, ok_or, option_map, option_or, and_then, Expr, Items, Stmt}
-use Rattle.roll_core.proofs.Words.{Insert, Update, Delete, Query, SetPath, Job, guarded, without, condition_error, delete_job, insert_job, query_error, rows_inserted, sets_settled, update_job}
-use Rattle.roll_core.proofs.Words.{SqlError, Site, number_of, shape_of, Reply, State, JobStands, TableStands, Found, site_of, table_of, table_on, table_through, Begun, Sets, Shows, Writes, begun}
-use Rattle.roll_core.proofs.Words.{error_reply, long_insert, no_table, on_table, writes, New, Old, Side, IsSite, IsStatement, Runs, meant, StoredTable}
+use Rattle.roll_core.proofs.Words.{IfOk, Below, ◌≡◌, ◌∙◌, ℕ, List, [], ◌∷◌, Option, Result, Ok, Err, ap, refl, sym, subst, ok_or, option_map, option_or, and_then, Expr, Items, Stmt, Insert, Update}
+use Rattle.roll_core.proofs.Words.{Delete, Query, SetPath, Job, guarded, condition_error, delete_job, insert_job, query_error, rows_inserted, sets_settled, update_job, SqlError, Site, number_of}
+use Rattle.roll_core.proofs.Words.{shape_of, Reply, State, JobStands, TableStands, Found, site_of, table_of, table_on, table_through, Begun, Sets, Shows, Writes, begun, error_reply, long_insert}
+use Rattle.roll_core.proofs.Words.{no_table, on_table, writes, New, Old, Side, IsSite, IsStatement, Runs, meant, StoredTable}
 use Rattle.roll_core.proofs.Words.job
+use Rattle.roll_core.proofs.Outcomes.{guarded_holds, then_holds, without_holds}
 
 found_meant : (frame : State) (tables : List StoredTable) (path : List (List ℕ)) (name : List ℕ) → table_of (meant frame tables) path name ≡ table_of frame path name
 found_meant frame tables [] name = refl
@@ -41,52 +42,23 @@ SaidBy (Writes site what) = IsStatement what
 SaidBy (Shows site items condition) = Unit {0}
 SaidBy Sets = Unit {0}
 
--- It holds of what is begun, where anything is.
-abbrev IfBegun : Result Begun Reply → Type 0
-IfBegun (Ok b) = SaidBy b
-IfBegun (Err reply) = Unit {0}
-
-abbrev IfSettled : Result Job SqlError → Type 0
-IfSettled (Ok what) = IsStatement what
-IfSettled (Err error) = Unit {0}
-
-without_said : (fault : Option SqlError) (what : Job) → IsStatement what → IfSettled (without fault what)
-without_said None what w = w
-without_said (Some fault) what w = tt
-
-writes_said : (settled : Result Job SqlError) (site : Site) → IfSettled settled → IfBegun (writes site settled)
+writes_said : (settled : Result Job SqlError) (site : Site) → IfOk settled IsStatement → IfOk (writes site settled) SaidBy
 writes_said (Ok what) site h = h
 writes_said (Err error) site h = tt
 
-insert_said : (rows : Result (List (List Value)) SqlError) → IfSettled (and_then rows (λ all. Ok (job.Put all)))
-insert_said (Ok rows) = tt
-insert_said (Err error) = tt
-
-update_said : (sets : Result (List (ℕ × Expr)) SqlError) (fault : Option SqlError) (condition : Option Expr) → IfSettled (and_then sets (λ sets. without fault (job.Alter sets condition)))
-update_said (Ok sets) fault condition = without_said fault (job.Alter sets condition) tt
-update_said (Err error) fault condition = tt
-
-query_said : (fault : Option Reply) (site : Site) (items : Items) (condition : Option Expr) → IfBegun (guarded fault (Ok (Shows site items condition)))
-query_said None site items condition = tt
-query_said (Some fault) site items condition = tt
-
-table_said : (found : Result Found Reply) (next : Found → Result Begun Reply) → ((found : Found) → IfBegun (next found)) → IfBegun (and_then found next)
-table_said (Ok found) next h = h found
-table_said (Err reply) next h = tt
-
-guarded_said : (fault : Option Reply) (next : Result Begun Reply) → IfBegun next → IfBegun (guarded fault next)
-guarded_said None next h = h
-guarded_said (Some fault) next h = tt
-
-begun_said : (s : State) (path : List (List ℕ)) (stmt : Stmt) → IfBegun (begun s path stmt)
-begun_said s path (Insert name names rows) = guarded_said (long_insert rows) _ (table_said (ok_or (table_of s path name) (no_table name)) _ (λ found. writes_said (insert_job found.table names rows) (site_of s found) (insert_said (rows_inserted found.table names rows))))
-begun_said s path (Update name sets condition) = table_said (ok_or (table_of s path name) (no_table name)) _ (λ found. writes_said (update_job (shape_of found.table) sets condition) (site_of s found) (update_said (sets_settled (shape_of found.table) sets) (condition_error (shape_of found.table) condition) condition))
-begun_said s path (Delete name condition) = table_said (ok_or (table_of s path name) (no_table name)) _ (λ found. writes_said (delete_job (shape_of found.table) condition) (site_of s found) (without_said (condition_error (shape_of found.table) condition) (job.Remove condition) tt))
-begun_said s path (Query name items condition) = table_said (ok_or (table_of s path name) (no_table name)) _ (λ found. query_said (option_map error_reply (query_error (shape_of found.table) items condition)) (site_of s found) items condition)
+begun_said : (s : State) (path : List (List ℕ)) (stmt : Stmt) → IfOk (begun s path stmt) SaidBy
+begun_said s path (Insert name names rows) = guarded_holds SaidBy (long_insert rows) _ (then_holds SaidBy (ok_or (table_of s path name) (no_table name)) _ (λ found.
+    writes_said (insert_job found.table names rows) (site_of s found) (then_holds IsStatement (rows_inserted found.table names rows) _ (λ rows. tt))))
+begun_said s path (Update name sets condition) = then_holds SaidBy (ok_or (table_of s path name) (no_table name)) _ (λ found.
+    let shape = shape_of found.table in
+    writes_said (update_job shape sets condition) (site_of s found) (then_holds IsStatement (sets_settled shape sets) _ (λ sets. without_holds IsStatement (condition_error shape condition) (job.Alter sets condition) tt)))
+begun_said s path (Delete name condition) = then_holds SaidBy (ok_or (table_of s path name) (no_table name)) _ (λ found.
+    let shape = shape_of found.table in writes_said (delete_job shape condition) (site_of s found) (without_holds IsStatement (condition_error shape condition) (job.Remove condition) tt))
+begun_said s path (Query name items condition) = then_holds SaidBy (ok_or (table_of s path name) (no_table name)) _ (λ found. guarded_holds SaidBy (option_map error_reply (query_error (shape_of found.table) items condition)) _ tt)
 begun_said s path (SetPath names) = tt
 
 pub writes_site : Below → (frame : State) (tables : List StoredTable) (path : List (List ℕ)) (stmt : Stmt) (site : Site) (what : Job) → Runs frame tables → begun frame path stmt ≡ Ok (Writes site what)
     → IsSite frame site × JobStands (shape_of site.here) what × IsStatement what
 writes_site law frame tables path stmt site what runs e =
     let there = law.writes (meant frame tables) path stmt site what runs.stands (begun-meant frame tables path stmt ∙ e) in
-    ((there.0, there.1, stands_meant frame tables there.0 there.2), there.3, subst IfBegun e (begun_said frame path stmt))
+    ((there.0, there.1, stands_meant frame tables there.0 there.2), there.3, subst (λ r. IfOk r SaidBy) e (begun_said frame path stmt))

@@ -8,11 +8,10 @@ use Rattle.roll_core.proofs.Words.finite
 use Rattle.roll_core.proofs.Words.job
 use Rattle.roll_core.proofs.Rows.{Stores}
 use Rattle.roll_core.proofs.Fitting.{Weighs, older_weigh}
-use Rattle.roll_core.proofs.Jobs.{job_stores, stored_agree, stored_sites}
+use Rattle.roll_core.proofs.Jobs.{job_stores, stored_agree, stored_sites, leaves, placed_weigh}
 use Rattle.roll_core.proofs.Outcomes.{err_by, map_fault_ok, ok_by, without_ok}
 use Rattle.roll_core.proofs.Missing.{each_left, each_taken, first_rows}
 use Rattle.roll_core.proofs.Tables.{IsRead, all_at, got_mapped, rows_of-read, suits_meant}
-use Rattle.roll_core.proofs.Written.{leaves, placed_weigh}
 
 -- ---- how it is refused, and how not
 

@@ -1,5 +1,5 @@
 -- What an outcome of several parts says of each.
-use Rattle.roll_core.proofs.Words.{◌∙◌, option_map, ◌≡◌, Option, Some, None, Result, Ok, Err, ap, refl, subst, and_then, and_then_ok, guarded, map_fault, ok_same, without}
+use Rattle.roll_core.proofs.Words.{IfOk, ◌∙◌, option_map, ◌≡◌, Option, Some, None, Result, Ok, Err, ap, refl, subst, and_then, and_then_ok, guarded, map_fault, ok_same, without}
 
 pub none_mapped : {X Y : Type 0} (f : X → Y) (o : Option X) → option_map f o ≡ None → o ≡ None
 none_mapped f None e = refl
@@ -31,3 +31,16 @@ err_by {T} {U} {E} (Ok y) o done fault h = by_fault (o y) h
     by_fault None e = cc
     by_fault (Some other) e = let same : other ≡ fault = cc in ap Err same
 err_by (Err e) o done fault h = let same : e ≡ fault = cc in ap Err same
+
+-- What holds of every value that may come holds of the one that does.
+pub then_holds : {T U E : Type 0} (P : U → Type 0) (r : Result T E) (next : T → Result U E) → ((x : T) → IfOk (next x) P) → IfOk (and_then r next) P
+then_holds P (Ok x) next h = h x
+then_holds P (Err e) next h = tt
+
+pub guarded_holds : {T E : Type 0} (P : T → Type 0) (fault : Option E) (next : Result T E) → IfOk next P → IfOk (guarded fault next) P
+guarded_holds P None next h = h
+guarded_holds P (Some fault) next h = tt
+
+pub without_holds : {T E : Type 0} (P : T → Type 0) (fault : Option E) (x : T) → P x → IfOk (without fault x) P
+without_holds P None x p = p
+without_holds P (Some fault) x p = tt

@@ -1,7 +1,7 @@
 -- Stored rows and the rows that they mean, also after changes.
 use Rattle.roll_core.proofs.Words.{Bor, ◌≡◌, ◌∙◌, ℤ, List, [], ◌∷◌, Bool, true, false, ◌||◌, not, Option, Some, None, is_some, int_cmp, int_eq, Ordering, Less, Equal, Greater, ap, refl, sym, length}
-use Rattle.roll_core.proofs.Words.{map, filter, cond, put, picked, where_key, int_eq_equiv, AllByRecursion, list_any, option_copied, eq_by_cmp, match_ordering, length-map, Value, Kept, put_row, Rows}
-use Rattle.roll_core.proofs.Words.{Form, StoredRow, kept, arith, ◌≤◌, ◌+◌, ℕ, subst, int_cmp_total, Change, Put, Remove, after_change, after_changes, OfPut, RemovedIsLeftOut, StoredChange, put_all}
+use Rattle.roll_core.proofs.Words.{map, filter, cond, put, picked, where_key, int_eq_equiv, AllByRecursion, list_any, option_copied, eq_by_cmp, match_ordering, Value, Kept, put_row, Rows, Form}
+use Rattle.roll_core.proofs.Words.{StoredRow, kept, arith, ◌≤◌, ◌+◌, ℕ, subst, int_cmp_total, Change, Put, Remove, after_change, after_changes, OfPut, RemovedIsLeftOut, StoredChange, put_all}
 use Rattle.roll_core.proofs.Words.{put_stored, stored_change, IsStoredRow}
 use Rattle.roll_core.proofs.Words.finite
 use Rattle.roll_core.proofs.Storing.{StoresRow}
@@ -23,13 +23,7 @@ copied_some (Some values) = refl
 pub has_key-meant : (form : Form) (key : ℤ) (rows : Rows) (got : Option (Bor (List Value))) → option_copied got ≡ finite.get rows key → is_some got ≡ list_any (λ row. int_eq key row.key) (map (kept form) (finite.entries rows))
 has_key-meant form key rows got is = sym (copied_some got) ∙ ap is_some is ∙ has_key-stored form key rows
 
-pub length-meant : (form : Form) (rows : Rows) → finite.len rows ≡ length (map (kept form) (finite.entries rows))
-length-meant form rows = finite.len-entries rows ∙ sym (length-map (finite.entries rows) (kept form))
-
 -- ---- one row put
-
-same_key : (key : ℤ) (values : List Value) (first : StoredRow) → int_cmp key first.0 ≡ Equal → ◌≡◌ {A = StoredRow} (first.0, values) (key, values)
-same_key key values first e = ap (λ k. (k, values)) (sym (finite.int_cmp-IsAntisymmetric key first.0 e))
 
 -- A stored row is put where the row that it means is put.
 pub put-meant : (form : Form) (row : Kept) (values : List Value) → kept form (row.key, values) ≡ row → (rows : List StoredRow) → map (kept form) (put int_cmp row.key values rows) ≡ put_row row (map (kept form) rows)
@@ -40,7 +34,7 @@ put-meant form row values is (first ∷ rows) = by_order (int_cmp row.key first.
         → map (kept form) (picked o ((row.key, values) ∷ first ∷ rows) ((first.0, values) ∷ rows) (first ∷ put int_cmp row.key values rows))
         ≡ match_ordering o (row ∷ kept form first ∷ map (kept form) rows) (row ∷ map (kept form) rows) (kept form first ∷ put_row row (map (kept form) rows))
     by_order Less e there = ap (λ r. r ∷ kept form first ∷ map (kept form) rows) is
-    by_order Equal e there = ap (λ r. r ∷ map (kept form) rows) (ap (kept form) (same_key row.key values first e) ∙ is)
+    by_order Equal e there = ap (λ r. r ∷ map (kept form) rows) (ap (λ k. kept form (k, values)) (sym (finite.int_cmp-IsAntisymmetric row.key first.0 e)) ∙ is)
     by_order Greater e there = ap (λ rest. kept form first ∷ rest) there
 
 -- What holds of the values of each row and of the new ones holds of all.
@@ -55,13 +49,10 @@ put_all_hold P key values p (first ∷ rows) h = by_order (int_cmp key first.0) 
 
 -- ---- one row removed
 
-eq_turned : (a b : ℤ) → eq_by_cmp int_cmp a b ≡ int_eq b a
-eq_turned a b = int_eq_equiv.symm a b
-
 -- A stored row is removed where the row that it means is removed.
 pub removed-meant : (form : Form) (key : ℤ) (rows : List StoredRow) → map (kept form) (where_key int_cmp (λ other. not (eq_by_cmp int_cmp key other)) rows) ≡ filter (λ row. not (int_eq row.key key)) (map (kept form) rows)
 removed-meant form key [] = refl
-removed-meant form key (row ∷ rows) = by_test (eq_by_cmp int_cmp key row.0) (int_eq row.0 key) (eq_turned key row.0) (removed-meant form key rows)
+removed-meant form key (row ∷ rows) = by_test (eq_by_cmp int_cmp key row.0) (int_eq row.0 key) (int_eq_equiv.symm key row.0) (removed-meant form key rows)
   where
     left : List StoredRow
     left = where_key int_cmp (λ other. not (eq_by_cmp int_cmp key other)) rows

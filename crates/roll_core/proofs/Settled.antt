@@ -18,7 +18,7 @@ use Rattle.roll_core.proofs.Fitting.{sorted_found}
 use Rattle.roll_core.proofs.Made.{Placed, changes_placed}
 use Rattle.roll_core.proofs.Outcomes.{guarded_ok, map_fault_ok, none_mapped}
 use Rattle.roll_core.proofs.Tables.{IsRead, all_at, count_seen, count_set, count_meant, rows_of-read, suits_meant}
-use Rattle.roll_core.proofs.Written.{leaves, new_fresh, statement_stores}
+use Rattle.roll_core.proofs.Jobs.{leaves, new_fresh, statement_stores}
 
 keys_accepted : (site : Site) (what : Job) (older : List Kept) (all : List Change) → refused_together site what older all ≡ None → new_keys_cause site what older all ≡ None
 keys_accepted site what older all e =

@@ -1,16 +1,14 @@
 -- The engine's calls are steps of the machine, and leave what an engine stores; so does its beginning.
-use Rattle.roll_core.proofs.Words.{map, ℕ, Form, OwnTable, ◌≡◌, ◌∙◌, List, [], ◌∷◌, true, Option, Result, Ok, Err, inl, inr, ap, refl, sym, subst, Each, Stop, Because, NoMemory, Event, Reply, State}
-use Rattle.roll_core.proofs.Words.{Nothing, Outcome, after_of, reply_to, wrote_by, StepsKeepLaws, StepsKeepStates, leaves_all, lost_columns_of, LaneStep, Step, may_want, outcome_of, Former, Comes}
-use Rattle.roll_core.proofs.Words.{RowsStored, SameForms, meant, reply_of, IsStored, IsStoredTable, Stored, StoredTable, form_in, lost_columns_by, Refusal, Refused, CommandOutcome, Done, as_outcome}
-use Rattle.roll_core.proofs.Words.{complete, start, ComesTo, Cmd, Start, command_outcome, event_of, AreKept, Goes, meaning, nil_from_length, ◌++◌, None, int_cmp, Value, RunsReachLawful}
-use Rattle.roll_core.proofs.Words.{RunsReachStates, beginning, Rows, Own, first_stored, parts, seen}
+use Rattle.roll_core.proofs.Words.{Runs, seen, parts, meaning, IsState, OwnTable, map, ℕ, Form, ◌≡◌, ◌∙◌, List, [], ◌∷◌, true, Option, Result, Ok, Err, inl, inr, ap, refl, sym, subst, Each, Stop}
+use Rattle.roll_core.proofs.Words.{Because, NoMemory, Event, Reply, State, Nothing, Outcome, after_of, reply_to, wrote_by, StepsKeepLaws, StepsKeepStates, leaves_all, lost_columns_of, LaneStep, Step}
+use Rattle.roll_core.proofs.Words.{may_want, outcome_of, Former, Comes, RowsStored, SameForms, meant, reply_of, IsStored, IsStoredTable, Stored, StoredTable, form_in, lost_columns_by, CommandOutcome}
+use Rattle.roll_core.proofs.Words.{Done, as_outcome, complete, start, ComesTo, Cmd, Start, command_outcome, event_of, AreKept, Goes, nil_from_length, ◌++◌, None, int_cmp, Value, RunsReachLawful}
+use Rattle.roll_core.proofs.Words.{RunsReachStates, beginning, Rows, Own, first_stored}
 use Rattle.roll_core.specs.declared.commands.Cmd.TheVariants.{Complete}
 use Rattle.roll_core.proofs.Words.finite
+use Rattle.roll_core.proofs.Runs.{runs_of}
 
 -- ---- the step
-
-pub moved : (R : State → Reply → State → Type 0) (s s2 : State) (r r2 : Reply) (t t2 : State) → s ≡ s2 → r ≡ r2 → t ≡ t2 → R s r t → R s2 r2 t2
-moved R s s2 r r2 t t2 a b c h = subst (R s2 r2) c (subst (λ x. R s2 x t) b (subst (λ x. R x r t) a h))
 
 -- An event that is answered so is a step as one lane takes it.
 pub lane_step : (event : Event) → may_want event ≡ true → (frame : State) (old new : List StoredTable) (result : Result Reply (Stop Reply))
@@ -49,7 +47,7 @@ tables_stored frame former before after (o ∷ old) (n ∷ new) s h r =
     (record { form = form ∙ h.0.form ∙ ap (form_in former frame) (sym number); lost = lost; rows = r.0 }, tables_stored frame former before after old new same.1 h.1 r.1)
 
 -- After a step that leaves the forms it is what an engine stores.
-pub still_stored : StepsKeepStates → StepsKeepLaws → (frame : State) (former : Option Former) (old new : List StoredTable) (event : Event) (reply : Reply)
+still_stored : StepsKeepStates → StepsKeepLaws → (frame : State) (former : Option Former) (old new : List StoredTable) (event : Event) (reply : Reply)
     → IsStored (record { frame = frame; former = former; tables = old }) → Step (meant frame old) event reply (meant frame new) → SameForms old new → Each RowsStored new
     → IsStored (record { frame = frame; former = former; tables = new })
 still_stored states laws frame former old new event reply is step f r = record {
@@ -60,21 +58,34 @@ still_stored states laws frame former old new event reply is step f r = record {
   tables = tables_stored frame former old new old new f is.tables r;
 }
 
+-- ---- calls over tables that were lent
+
+pub runs_lent : (frame : State) (former : Option Former) (items lent : List OwnTable) → lent ≡ items → IsStored (parts frame former items) → Runs frame (map seen lent)
+runs_lent frame former items lent v is = runs_of (parts frame former lent) (subst (λ ts. IsStored (parts frame former ts)) (sym v) is)
+
+pub stored_lent : StepsKeepStates → StepsKeepLaws → (frame : State) (former : Option Former) (items lent new back : List OwnTable) → lent ≡ items → back ≡ new → IsStored (parts frame former items) → (event : Event) (reply : Reply)
+    → (IsState (meant frame (map seen lent)) → Step (meant frame (map seen lent)) event reply (meant frame (map seen new))) → SameForms (map seen lent) (map seen new) → Each RowsStored (map seen new) → IsStored (parts frame former back)
+stored_lent states laws frame former items lent new back v b is event reply step f r =
+    let was = subst (λ ts. IsStored (parts frame former ts)) (sym v) is in
+    subst (λ ts. IsStored (parts frame former ts)) (sym b) (still_stored states laws frame former (map seen lent) (map seen new) event reply was (step was.stands) f r)
+
+pub step_lent : (R : State → Reply → State → Type 0) (frame : State) (former : Option Former) (items lent new back : List OwnTable) (stored : Stored) (reply told : Reply) → lent ≡ items → back ≡ new → parts frame former items ≡ stored → told ≡ reply
+    → R (meant frame (map seen lent)) reply (meant frame (map seen new)) → R (meaning stored) told (meaning (parts frame former back))
+step_lent R frame former items lent new back stored reply told v b is t h =
+    let means = λ (ts : List OwnTable). meaning (parts frame former ts) in
+    subst (R (meaning stored) told) (ap means (sym b)) (subst (λ s. R s told (means new)) (ap means v ∙ ap meaning is) (subst (λ r. R (means lent) r (means new)) (sym t) h))
+
+pub same_lent : (frame : State) (former : Option Former) (items lent new back : List OwnTable) (stored : Stored) → lent ≡ items → back ≡ new → parts frame former items ≡ stored → map seen new ≡ map seen lent → parts frame former back ≡ stored
+same_lent frame former items lent new back stored v b is same = ap (parts frame former) b ∙ ap (λ ts. record { frame = frame; former = former; tables = ts }) same ∙ ap (parts frame former) v ∙ is
+
 -- ---- steps
 
 accepted : (s t : State) (outcome : CommandOutcome) (reply : Reply) (done : Done) → outcome ≡ Ok done → reply ≡ done.reply → t ≡ done.after → ComesTo s (as_outcome outcome) reply done.wrote t
 accepted s t outcome reply done is r a = subst (λ o. ComesTo s (as_outcome o) reply done.wrote t) (sym is) (r, refl, a)
 
-refused : (s t : State) (outcome : CommandOutcome) (refusal : Refusal) → outcome ≡ Err refusal → t ≡ s → ComesTo s (as_outcome outcome) (Refused refusal) Nothing t
-refused s t outcome refusal is same = subst (λ o. ComesTo s (as_outcome o) (Refused refusal) Nothing t) (sym is) (refl, refl, same)
-
 pub done_step : (old new : Stored) (cmd : Cmd) (reply : Reply) → Goes old (command_outcome (meaning old) cmd) (Ok reply) new → Step (meaning old) (event_of cmd) reply (meaning new)
 done_step old new (Start asked) reply g = (g.0.wrote, inl (accepted (meaning old) (meaning new) (start (meaning old) asked) reply g.0 g.1 g.2 g.3))
 done_step old new Complete reply g = (g.0.wrote, inl (accepted (meaning old) (meaning new) (complete (meaning old)) reply g.0 g.1 g.2 g.3))
-
-pub refused_step : (old new : Stored) (cmd : Cmd) (refusal : Refusal) → Goes old (command_outcome (meaning old) cmd) (Err (Because refusal)) new → Step (meaning old) (event_of cmd) (Refused refusal) (meaning new)
-refused_step old new (Start asked) refusal g = (Nothing, inl (refused (meaning old) (meaning new) (start (meaning old) asked) refusal g.0 (ap meaning g.1)))
-refused_step old new Complete refusal g = (Nothing, inl (refused (meaning old) (meaning new) (complete (meaning old)) refusal g.0 (ap meaning g.1)))
 
 -- ---- what an engine stores
 
@@ -91,9 +102,6 @@ whole law old new cmd reply stored kept step = record {
   tables = kept.tables;
 }
 
-pub still_whole : (old new : Stored) → IsStored old → new ≡ old → IsStored new
-still_whole old new stored same = subst IsStored (sym same) stored
-
 no_rows : (rows : Rows) → rows ≡ finite.empty → finite.entries rows ≡ []
 no_rows rows e = ap finite.entries e ∙ nil_from_length (finite.entries {X = List Value} {R = int_cmp} finite.empty) (sym (finite.len-entries finite.empty) ∙ finite.len-empty int_cmp (List Value))
 
@@ -106,9 +114,6 @@ first_is frame s items before table b f e i n w r =
     let all : items ≡ table ∷ [] = i ∙ ap (λ (ts : List OwnTable). ts ++ (table ∷ [])) e in
     ap (λ (fr : State). parts fr None items) is ∙ ap (parts (record beginning { tables = [] }) None) all
     ∙ ap (λ (t : StoredTable). record { frame = record beginning { tables = [] }; former = None; tables = t ∷ [] }) (first_seen table n w r)
-
-pub first_means : meaning first_stored ≡ beginning
-first_means = refl
 
 pub first_stands : RunsReachStates → RunsReachLawful → IsStored first_stored
 first_stands states laws =

@@ -138,9 +138,6 @@ is_tidied law frame former tables stored k =
 
 -- ---- the whole
 
-tidied_is : (s : State) → s.kind ≡ kind.Complete → complete s ≡ Ok (tidied s)
-tidied_is s k = rw k refl
-
 reply_by : (two : Bool) (second third : State) → Complete (if two then 2 else 3) ≡ (if two then stepped 2 second else stepped 3 third).reply
 reply_by true a b = refl
 reply_by false a b = refl
@@ -160,4 +157,4 @@ tidies law stored is k =
     let next = is_tidied law stored.frame stored.former stored.tables is k in
     let second = record s { left = 1; tables = map table_without_loss s.tables; lost_columns = [] } in
     let third = record s { left = 0; kind = kind.Nothing } in
-    ((tidied s, tidied_is s k, reply_by (stored.frame.left == 2) second third, next.means ∙ after_by (stored.frame.left == 2) second third), next.kept)
+    ((tidied s, rw k refl, reply_by (stored.frame.left == 2) second third, next.means ∙ after_by (stored.frame.left == 2) second third), next.kept)

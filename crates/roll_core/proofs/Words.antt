@@ -12,7 +12,7 @@ pub use Rattle.std.specs.FinMap.Entries.{below_all, by_order, by_order as picked
 pub use Rattle.std.specs.List.{AllByRecursion, AllByRecursion as Each, cons_option, enumerate_from, filter_map, list_all, list_any, zip}
 pub use Rattle.std.specs.Option.{ok_or, option_copied, option_map_or, option_or}
 pub use Rattle.std.specs.Ordering.{eq_by_cmp, is_eq, is_lt, match_ordering, ordering_reverse}
-pub use Rattle.std.specs.Prelude.{T, slice_get, slice_index_or, slice_set, sum_by}
+pub use Rattle.std.specs.Prelude.{IfOk, T, slice_get, slice_index_or, slice_set, sum_by}
 pub use Rattle.machine.specs.Done.{CommandOutcome, Done, Nothing, Outcome, Started, after_of, answered, as_outcome, reply_to, wrote_by}
 pub use Rattle.machine.specs.Follows.{goes_on_filling}
 pub use Rattle.machine.specs.Laws.{RowsOnSites, RowsStandBy, RunsReachLawful, RunsReachStates, StepsKeepLaws, StepsKeepStates, leaves_all}
@@ -27,7 +27,7 @@ pub use Rattle.machine.specs.declared.events.Event.{Event}
 pub use Rattle.machine.specs.declared.events.Event.TheVariants.{Fill, Said}
 pub use Rattle.machine.specs.declared.events.Reading.TheVariants.{Stmt as Read}
 pub use Rattle.machine.specs.declared.events.Reply.{Reply}
-pub use Rattle.machine.specs.declared.events.Reply.TheVariants.{Complete, Filled, Refused, Select, Set}
+pub use Rattle.machine.specs.declared.events.Reply.TheVariants.{Complete, Filled, Select, Set}
 pub use Rattle.machine.specs.declared.states.Mode.{Mode}
 pub use Rattle.machine.specs.declared.states.Mode.TheVariants.{Both, Calm}
 pub use Rattle.machine.specs.declared.states.State.{State}
