@@ -25,11 +25,9 @@ least_none (key ∷ keys) e = cc
 
 none_pass : (q : ℤ → Bool) (rows : List Kept) → filter q (map (λ row. row.key) rows) ≡ [] → Each (λ row. q row.key ≡ false) rows
 none_pass q [] e = tt
-none_pass q (row ∷ rows) e = by_test (q row.key) refl e (none_pass q rows)
-  where
-    by_test : (b : Bool) → q row.key ≡ b → cond b (row.key ∷ filter q (map (λ row. row.key) rows)) (filter q (map (λ row. row.key) rows)) ≡ [] → (filter q (map (λ row. row.key) rows) ≡ [] → Each (λ row. q row.key ≡ false) rows) → Each (λ row. q row.key ≡ false) (row ∷ rows)
-    by_test true k e there = cc
-    by_test false k e there = (k, there e)
+none_pass q (row ∷ rows) e =
+    elim (q row.key) as (λ b. q row.key ≡ b → cond b (row.key ∷ filter q (map (λ row. row.key) rows)) (filter q (map (λ row. row.key) rows)) ≡ [] → Each (λ row. q row.key ≡ false) (row ∷ rows))
+    [ true ↦ λ k e. cc | false ↦ λ k e. (k, none_pass q rows e) ] refl e
 
 neither : (a b : Bool) → (a || b) ≡ false → (a ≡ false) × (b ≡ false)
 neither true b h = cc
@@ -41,11 +39,9 @@ Distinct (row ∷ rows) = Each (λ other. int_eq row.key other.key ≡ false) ro
 
 never : (key : ℤ) (rows : List Kept) → times key rows ≡ 0 → Each (λ row. int_eq key row.key ≡ false) rows
 never key [] e = tt
-never key (row ∷ rows) e = by_test (int_eq key row.key) refl e (never key rows)
-  where
-    by_test : (b : Bool) → int_eq key row.key ≡ b → length (cond b (row ∷ filter (λ row. int_eq key row.key) rows) (filter (λ row. int_eq key row.key) rows)) ≡ 0 → (times key rows ≡ 0 → Each (λ row. int_eq key row.key ≡ false) rows) → Each (λ row. int_eq key row.key ≡ false) (row ∷ rows)
-    by_test true k e there = absurd (omega (arith, e))
-    by_test false k e there = (k, there e)
+never key (row ∷ rows) e =
+    elim (int_eq key row.key) as (λ b. int_eq key row.key ≡ b → length (cond b (row ∷ filter (λ row. int_eq key row.key) rows) (filter (λ row. int_eq key row.key) rows)) ≡ 0 → Each (λ row. int_eq key row.key ≡ false) (row ∷ rows))
+    [ true ↦ λ k e. absurd (omega (arith, e)) | false ↦ λ k e. (k, never key rows e) ] refl e
 
 head_once : (row : Kept) (rows : List Kept) → nat_lt 1 (times row.key (row ∷ rows)) ≡ false → times row.key rows ≡ 0
 head_once row rows h =
@@ -54,11 +50,8 @@ head_once row rows h =
     grind (arith, nat_tests)
 
 fewer : (key : ℤ) (row : Kept) (rows : List Kept) → times key rows ≤ times key (row ∷ rows)
-fewer key row rows = by_test (int_eq key row.key)
-  where
-    by_test : (b : Bool) → times key rows ≤ length (cond b (row ∷ filter (λ row. int_eq key row.key) rows) (filter (λ row. int_eq key row.key) rows))
-    by_test true = omega arith
-    by_test false = omega arith
+fewer key row rows =
+    elim (int_eq key row.key) as (λ b. times key rows ≤ length (cond b (row ∷ filter (λ row. int_eq key row.key) rows) (filter (λ row. int_eq key row.key) rows))) [ true ↦ omega arith | false ↦ omega arith ]
 
 tail_once : (row : Kept) (rows : List Kept) (other : Kept) → nat_lt 1 (times other.key (row ∷ rows)) ≡ false → nat_lt 1 (times other.key rows) ≡ false
 tail_once row rows other few = let less = fewer other.key row rows in grind (arith, nat_tests)
@@ -98,11 +91,8 @@ new_count form before (row ∷ new) rows h d =
 still_there : (rows : Rows) (key : ℤ) (values : List Value) (new : List Kept) → Each (λ row. finite.contains_key rows row.key ≡ true) new → Each (λ row. finite.contains_key (finite.insert rows key values) row.key ≡ true) new
 still_there rows key values [] h = tt
 still_there rows key values (row ∷ new) h =
-    (ap is_some (finite.get-insert int_cmp_total rows key values row.key) ∙ by_test (eq_by_cmp int_cmp row.key key), still_there rows key values new h.1)
-  where
-    by_test : (b : Bool) → is_some (cond b (Some values) (finite.get rows row.key)) ≡ true
-    by_test true = refl
-    by_test false = h.0
+    let here = elim (eq_by_cmp int_cmp row.key key) as (λ b. is_some (cond b (Some values) (finite.get rows row.key)) ≡ true) [ true ↦ refl | false ↦ h.0 ] in
+    (ap is_some (finite.get-insert int_cmp_total rows key values row.key) ∙ here, still_there rows key values new h.1)
 
 -- Rows of keys that are there are no more.
 pub same_count : (form : Form) (before : Rows) (new : List Kept) (rows : Rows) → Each (λ row. finite.contains_key rows row.key ≡ true) new → finite.len (put_all (map (stored_change form before) (map Put new)) rows) ≡ finite.len rows

@@ -73,11 +73,11 @@ none_new key None h = refl
 none_new key (Some values) h = absurd h
 
 alone_has : (here : Table) (row : Kept) → HalfStands (Some here) row.key row.halves.old → HalfStands None row.key row.halves.new → AloneFits (shape_of here) row
-alone_has here row o n = by_old row.halves.old refl o
-  where
-    by_old : (old : Option (List Value)) → row.halves.old ≡ old → HalfStands (Some here) row.key old → AloneFits (shape_of here) row
-    by_old None e h = absurd h
-    by_old (Some values) e h = record { values = values; halves = halves_are row.halves (Some values) None e (none_new row.key row.halves.new n); fits = h.0 }
+alone_has here row o n =
+    elim row.halves.old as (λ old. row.halves.old ≡ old → HalfStands (Some here) row.key old → AloneFits (shape_of here) row) [
+      | None ↦ λ e h. absurd h
+      | Some values ↦ λ e h. record { values = values; halves = halves_are row.halves (Some values) None e (none_new row.key row.halves.new n); fits = h.0 }
+    ] refl o
 
 alone_site : (side : Side) (here : Table) (there : Option Beside) (row : Kept) → side ≡ Old → there ≡ None → HalfStands (table_by side here there) row.key row.halves.old → NewStands (may_miss_beside there) (new_table_by side here there) row.key row.halves.new → AloneFits (shape_of here) row
 alone_site Old here None row s t o n = alone_has here row o n

@@ -1,5 +1,5 @@
 -- The first step of completing leaves stored rows that mean what the machine leaves.
-use Rattle.roll_core.proofs.Words.{nat_eq, list_any, Each, Below, ◌||◌, meaning, arith, ◌≡◌, ◌∙◌, ℕ, List, [], ◌∷◌, Bool, true, false, ◌==◌, Option, Some, None, Ok, Err, inl, inr, find, is_some}
+use Rattle.roll_core.proofs.Words.{ℤ, nat_eq, list_any, Each, Below, ◌||◌, meaning, arith, ◌≡◌, ◌∙◌, ℕ, List, [], ◌∷◌, Bool, true, false, ◌==◌, Option, Some, None, Ok, Err, inl, inr, find, is_some}
 use Rattle.roll_core.proofs.Words.{nat_lt, map, ap, refl, sym, subst, option_map, option_and_then, if◌then◌else◌, slice_get, AllByRecursion, cons_option, filter_map, option_map_or, option_or}
 use Rattle.roll_core.proofs.Words.{nat_tests, either_none, Schema, Value, least, Lens, Kind, Refusal, NotFilled, Unfinished, Fate, Kept, first_some, without, name_of, invalid_cause, Mode, Calm, Both}
 use Rattle.roll_core.proofs.Words.{State, complete, completed, completed_row, finish, lost_columns_in, lost_in_table, not_valid, stepped, tidied, CommandOutcome, Complete, IsState, ModeStands}
@@ -16,12 +16,10 @@ use Rattle.roll_core.proofs.Tables.{all_at, each_place, got_mapped, numbers_of-m
 -- ---- why it may not be completed
 
 filled_same : (frame : State) (all : List StoredTable) (table : StoredTable) → rows_of (meant frame all) table.number ≡ rows_meant table → migrate.not_filled_in (meant frame all) table.number ≡ not_filled_in frame table
-filled_same frame all table r = by_shared (shared frame table.number)
-  where
-    by_shared : (both : Option Shared) → option_and_then {U = Refusal} (λ pair. option_map (λ key. NotFilled (name_of pair.new) key) (least (option_map_or (λ pair. missing_keys (rows_of (meant frame all) table.number)) both []))) both
-        ≡ option_and_then (λ both. option_map (λ key. NotFilled (name_of both.new) key) (least (missing_keys (rows_meant table)))) both
-    by_shared None = refl
-    by_shared (Some both) = ap (λ (rows : List Kept). option_map (λ key. NotFilled (name_of both.new) key) (least (missing_keys rows))) r
+filled_same frame all table r =
+    let least_of = λ (both : Shared) (keys : List ℤ). option_map {U = Refusal} (λ key. NotFilled (name_of both.new) key) (least keys) in
+    elim (shared frame table.number) as (λ both. option_and_then {U = Refusal} (λ pair. least_of pair (option_map_or (λ pair. missing_keys (rows_of (meant frame all) table.number)) both [])) both
+    ≡ option_and_then (λ both. least_of both (missing_keys (rows_meant table))) both) [ None ↦ refl | Some both ↦ ap (λ (rows : List Kept). least_of both (missing_keys rows)) r ]
 
 valid_same : (frame : State) (all : List StoredTable) (table : StoredTable) → rows_of (meant frame all) table.number ≡ rows_meant table → migrate.invalid_in (meant frame all) table.number ≡ invalid_in frame table
 valid_same frame all table r = ap (λ (rows : List Kept). option_and_then (λ newer. invalid_cause newer rows) (table_on frame New table.number)) r
@@ -55,11 +53,9 @@ may_same law frame tables stands =
 -- A row that has its new half isn't marked.
 unmarked : (pair : Pair) (rows : List StoredRow) → Each (λ row. is_some row.halves.new ≡ true) (map (kept (Paired pair)) rows) → Each (λ row. is_marked pair row.1 ≡ false) rows
 unmarked pair [] h = tt
-unmarked pair (row ∷ rows) h = (by_mark (is_marked pair row.1) h.0, unmarked pair rows h.1)
-  where
-    by_mark : (b : Bool) → is_some (if◌then◌else◌ {A = Option (List Value)} b None (Some (new_view pair row.1))) ≡ true → b ≡ false
-    by_mark true h = cc
-    by_mark false h = refl
+unmarked pair (row ∷ rows) h =
+    let here = elim (is_marked pair row.1) as (λ b. is_some (if◌then◌else◌ {A = Option (List Value)} b None (Some (new_view pair row.1))) ≡ true → b ≡ false) [ true ↦ λ h. cc | false ↦ λ h. refl ] h.0 in
+    (here, unmarked pair rows h.1)
 
 -- The new half of such a row stays, and it is a filled row.
 rows_stay : (pair : Pair) (rows : List StoredRow) → AllByRecursion (λ row. is_marked pair row.1 ≡ false) rows → map (kept (Left pair)) rows ≡ map (completed_row (Some pair.lens)) (map (kept (Paired pair)) rows)
@@ -102,11 +98,9 @@ here_found number (Some lens) rest there h = by_test (nat_lt 0 (lost_columns_in 
 
 other_found : (own number : ℕ) (lens : Option Lens) (rest : List (ℕ × ℕ)) → (own == number) ≡ false → found (cons_option (entry own lens) rest) number ≡ found rest number
 other_found own number None rest e = refl
-other_found own number (Some lens) rest e = by_test (nat_lt 0 (lost_columns_in lens))
-  where
-    by_test : (b : Bool) → found (cons_option (if b then Some (own, lost_columns_in lens) else None) rest) number ≡ found rest number
-    by_test true = ap (λ b. option_map_or {T = ℕ × ℕ} (λ lost. lost.1) (if b then Some (own, lost_columns_in lens) else find (λ lost. lost.0 == number) rest) 0) e
-    by_test false = refl
+other_found own number (Some lens) rest e =
+    elim (nat_lt 0 (lost_columns_in lens)) as (λ b. found (cons_option (if b then Some (own, lost_columns_in lens) else None) rest) number ≡ found rest number)
+    [ true ↦ ap (λ b. option_map_or {T = ℕ × ℕ} (λ lost. lost.1) (if b then Some (own, lost_columns_in lens) else find (λ lost. lost.0 == number) rest) 0) e | false ↦ refl ]
 
 lost_found : (fates : List (ℕ × Fate)) (number : ℕ) (tables : List StoredTable) → found (filter_map (lost_by fates) tables) number ≡ (if list_any (nat_eq number) (numbers_in tables) then amount (lens_among fates number) else 0)
 lost_found fates number [] = refl

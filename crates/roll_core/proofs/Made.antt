@@ -84,11 +84,7 @@ IfThere P (Some row) = P row
 passed_there : (P : Kept → Type 0) (site : Site) (condition : Option Expr) (row : Kept) (o : Option Kept) → P row → row_passed site condition row ≡ Ok o → IfThere P o
 passed_there P site condition row o p h =
     let step = and_then_ok (map_fault (value_cause row.key) (passes (shape_of site.here) condition (shown site row.halves))) (λ passed. Ok (if passed then Some row else None)) o h in
-    subst (IfThere P) (ok_same (if step.0 then Some row else None) o step.2) (by_test step.0)
-  where
-    by_test : (b : Bool) → IfThere P (if b then Some row else None)
-    by_test true = p
-    by_test false = tt
+    subst (IfThere P) (ok_same (if step.0 then Some row else None) o step.2) (elim step.0 as (λ b. IfThere P (if b then Some row else None)) [ true ↦ p | false ↦ tt ])
 
 all_there : (P : Kept → Type 0) (found : List (Option Kept)) → Each (IfThere P) found → Each P (filter_map (λ row. row) found)
 all_there P [] h = tt

@@ -35,12 +35,9 @@ key_absent p key n (row ∷ rows) b = by_test (p row) n (key_absent p key n rows
 -- rows behind a key aren't of this key
 skipped : (q : Kept → Bool) (key : ℤ) (rows : List Kept) → IsBelow key rows → filter (λ row. int_eq row.key key || q row) rows ≡ filter q rows
 skipped q key [] b = refl
-skipped q key (row ∷ rows) b = by_test (int_eq row.key key) (q row) (int_eq_equiv.symm row.key key ∙ ap is_eq b.0) (skipped q key rows b.1)
-  where
-    by_test : (a c : Bool) → a ≡ false → filter (λ row. int_eq row.key key || q row) rows ≡ filter q rows → (if a || c then row ∷ filter (λ row. int_eq row.key key || q row) rows else filter (λ row. int_eq row.key key || q row) rows) ≡ (if c then row ∷ filter q rows else filter q rows)
-    by_test true c e there = cc
-    by_test false true e there = ap (λ rows. row ∷ rows) there
-    by_test false false e there = there
+skipped q key (row ∷ rows) b =
+    let rest = filter (λ row. int_eq row.key key || q row) rows in
+    ap (λ a. if a || q row then row ∷ rest else rest) (int_eq_equiv.symm row.key key ∙ ap is_eq b.0) ∙ ap (λ rest. if q row then row ∷ rest else rest) (skipped q key rows b.1)
 
 none_taken : {X : Type 0} (xs : List X) → take zero xs ≡ []
 none_taken [] = refl
@@ -75,21 +72,16 @@ first_rows p (suc n) (row ∷ rows) h =
 
 pub any_left : (rows : List Kept) → nat_lt 0 (length (keys_missing rows)) ≡ list_any is_missing rows
 any_left [] = refl
-any_left (row ∷ rows) = by_test (is_missing row) (any_left rows)
-  where
-    by_test : (b : Bool) → nat_lt 0 (length (keys_missing rows)) ≡ list_any is_missing rows → nat_lt 0 (length (map {A = Kept} (λ row. row.key) (if b then row ∷ filter is_missing rows else filter is_missing rows))) ≡ (b || list_any is_missing rows)
-    by_test true there = grind (arith, nat_tests)
-    by_test false there = there
+any_left (row ∷ rows) =
+    elim (is_missing row) as (λ b. nat_lt 0 (length (map {A = Kept} (λ row. row.key) (if b then row ∷ filter is_missing rows else filter is_missing rows))) ≡ (b || list_any is_missing rows))
+    [ true ↦ grind (arith, nat_tests) | false ↦ any_left rows ]
 
 -- ---- what holds of rows holds of some of them
 
 pub each_left : (P : Kept → Type 0) (p : Kept → Bool) (rows : List Kept) → Each P rows → Each P (filter p rows)
 each_left P p [] h = tt
-each_left P p (row ∷ rows) h = by_test (p row) (each_left P p rows h.1)
-  where
-    by_test : (b : Bool) → Each P (filter p rows) → Each P (if b then row ∷ filter p rows else filter p rows)
-    by_test true there = (h.0, there)
-    by_test false there = there
+each_left P p (row ∷ rows) h =
+    elim (p row) as (λ b. Each P (if b then row ∷ filter p rows else filter p rows)) [ true ↦ (h.0, each_left P p rows h.1) | false ↦ each_left P p rows h.1 ]
 
 pub each_taken : (P : Kept → Type 0) (n : ℕ) (rows : List Kept) → Each P rows → Each P (take n rows)
 each_taken P zero rows h = subst (Each P) (sym (none_taken rows)) tt
@@ -150,11 +142,7 @@ drop_found : (tables : List OwnTable) (at : ℕ) (table : OwnTable) → slice_ge
 drop_found [] at table e u = cc
 drop_found (first ∷ tables) zero table e u =
     let same : seen first ≡ seen table = ap seen (some_same first table e) in
-    by_test (is_unfilled (seen first)) (ap is_unfilled same ∙ u) same
-  where
-    by_test : (b : Bool) → b ≡ true → seen first ≡ seen table → (if b then Some (seen first) else find is_unfilled (map seen tables)) ≡ Some (seen table)
-    by_test true e s = ap Some s
-    by_test false e s = cc
+    ap (λ b. if b then Some (seen first) else find is_unfilled (map seen tables)) (ap is_unfilled same ∙ u) ∙ ap Some same
 drop_found (first ∷ tables) (suc at) table e u = drop_found tables at table e u
 
 pub found_here : (tables : List OwnTable) (at : ℕ) (d table : OwnTable) → at < length tables → table ≡ slice_index_or tables at d → find is_unfilled (map seen (drop at tables)) ≡ find is_unfilled (map seen tables) → is_unfilled (seen table) ≡ true → FirstUnfilled (map seen tables) (Some at)

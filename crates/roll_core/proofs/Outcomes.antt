@@ -25,11 +25,8 @@ ok_by r o done x h =
     subst (λ x. and_then r (λ y. without (o y) (done y)) ≡ Ok (done x)) made.1 (ap (λ q. and_then q (λ y. without (o y) (done y))) step.1 ∙ ap (λ f. without f (done step.0)) made.0)
 
 pub err_by : {T U E : Type 0} (r : Result T E) (o : T → Option E) (done : T → U) (fault : E) → and_then r (λ y. without (o y) y) ≡ Err fault → and_then r (λ y. without (o y) (done y)) ≡ Err fault
-err_by {T} {U} {E} (Ok y) o done fault h = by_fault (o y) h
-  where
-    by_fault : (f : Option E) → without f y ≡ Err fault → without f (done y) ≡ Err fault
-    by_fault None e = cc
-    by_fault (Some other) e = let same : other ≡ fault = cc in ap Err same
+err_by (Ok y) o done fault h =
+    elim (o y) as (λ f. without f y ≡ Err fault → without f (done y) ≡ Err fault) [ None ↦ λ e. cc | Some other ↦ λ e. let same : other ≡ fault = cc in ap Err same ] h
 err_by (Err e) o done fault h = let same : e ≡ fault = cc in ap Err same
 
 -- What holds of every value that may come holds of the one that does.

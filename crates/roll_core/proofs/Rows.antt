@@ -40,40 +40,28 @@ put-meant form row values is (first ∷ rows) = by_order (int_cmp row.key first.
 -- What holds of the values of each row and of the new ones holds of all.
 pub put_all_hold : (P : List Value → Type 0) (key : ℤ) (values : List Value) → P values → (rows : List StoredRow) → AllByRecursion (λ row. P row.1) rows → AllByRecursion (λ row. P row.1) (put int_cmp key values rows)
 put_all_hold P key values p [] h = (p, tt)
-put_all_hold P key values p (first ∷ rows) h = by_order (int_cmp key first.0) (put_all_hold P key values p rows h.1)
-  where
-    by_order : (o : Ordering) → AllByRecursion (λ row. P row.1) (put int_cmp key values rows) → AllByRecursion (λ row. P row.1) (picked o ((key, values) ∷ first ∷ rows) ((first.0, values) ∷ rows) (first ∷ put int_cmp key values rows))
-    by_order Less there = (p, h)
-    by_order Equal there = (p, h.1)
-    by_order Greater there = (h.0, there)
+put_all_hold P key values p (first ∷ rows) h =
+    elim (int_cmp key first.0) as (λ o. AllByRecursion (λ row. P row.1) (picked o ((key, values) ∷ first ∷ rows) ((first.0, values) ∷ rows) (first ∷ put int_cmp key values rows)))
+    [ Less ↦ (p, h) | Equal ↦ (p, h.1) | Greater ↦ (h.0, put_all_hold P key values p rows h.1) ]
 
 -- ---- one row removed
 
 -- A stored row is removed where the row that it means is removed.
 pub removed-meant : (form : Form) (key : ℤ) (rows : List StoredRow) → map (kept form) (where_key int_cmp (λ other. not (eq_by_cmp int_cmp key other)) rows) ≡ filter (λ row. not (int_eq row.key key)) (map (kept form) rows)
 removed-meant form key [] = refl
-removed-meant form key (row ∷ rows) = by_test (eq_by_cmp int_cmp key row.0) (int_eq row.0 key) (int_eq_equiv.symm key row.0) (removed-meant form key rows)
-  where
-    left : List StoredRow
-    left = where_key int_cmp (λ other. not (eq_by_cmp int_cmp key other)) rows
-
-    by_test : (a b : Bool) → a ≡ b → map (kept form) left ≡ filter (λ row. not (int_eq row.key key)) (map (kept form) rows)
-        → map (kept form) (cond (not a) (row ∷ left) left) ≡ cond (not b) (kept form row ∷ filter (λ row. not (int_eq row.key key)) (map (kept form) rows)) (filter (λ row. not (int_eq row.key key)) (map (kept form) rows))
-    by_test true true e there = there
-    by_test true false e there = cc
-    by_test false true e there = cc
-    by_test false false e there = ap (λ rest. kept form row ∷ rest) there
+removed-meant form key (row ∷ rows) =
+    let left = where_key int_cmp (λ other. not (eq_by_cmp int_cmp key other)) rows in
+    let wanted = filter (λ row. not (int_eq row.key key)) (map (kept form) rows) in
+    let there : map (kept form) left ≡ wanted = removed-meant form key rows in
+    elim (eq_by_cmp int_cmp key row.0) as (λ a. map (kept form) (cond (not a) (row ∷ left) left) ≡ cond (not a) (kept form row ∷ wanted) wanted) [ true ↦ there | false ↦ ap (λ rest. kept form row ∷ rest) there ]
+    ∙ ap (λ b. cond (not b) (kept form row ∷ wanted) wanted) (int_eq_equiv.symm key row.0)
 
 pub removed_all_hold : (P : List Value → Type 0) (key : ℤ) (rows : List StoredRow) → AllByRecursion (λ row. P row.1) rows → AllByRecursion (λ row. P row.1) (where_key int_cmp (λ other. not (eq_by_cmp int_cmp key other)) rows)
 removed_all_hold P key [] h = tt
-removed_all_hold P key (row ∷ rows) h = by_test (eq_by_cmp int_cmp key row.0) (removed_all_hold P key rows h.1)
-  where
-    left : List StoredRow
-    left = where_key int_cmp (λ other. not (eq_by_cmp int_cmp key other)) rows
-
-    by_test : (a : Bool) → AllByRecursion (λ row. P row.1) left → AllByRecursion (λ row. P row.1) (cond (not a) (row ∷ left) left)
-    by_test true there = there
-    by_test false there = (h.0, there)
+removed_all_hold P key (row ∷ rows) h =
+    let left = where_key int_cmp (λ other. not (eq_by_cmp int_cmp key other)) rows in
+    let there = removed_all_hold P key rows h.1 in
+    elim (eq_by_cmp int_cmp key row.0) as (λ a. AllByRecursion (λ row. P row.1) (cond (not a) (row ∷ left) left)) [ true ↦ there | false ↦ (h.0, there) ]
 
 -- ---- the loop
 

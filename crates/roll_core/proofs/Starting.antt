@@ -27,11 +27,8 @@ row_begun law both row is fit =
     ap f holds.old_shown ∙ ap g holds.mark ∙ ap k holds.new_shown
 
 row_is_stored : BeginningLeaves → (pair : Pair) (values : List Value) → IsPair pair → row_fits pair.old values ≡ true → IsPairedRow pair (begun pair values)
-row_is_stored law pair values is fit = by_mark pair.layout.mark (law pair values is fit)
-  where
-    by_mark : (mark : Bool) → IsBegunRow mark pair (begun pair values) → IsPairedRow pair (begun pair values)
-    by_mark true unfilled = inr unfilled
-    by_mark false filled = inl filled
+row_is_stored law pair values is fit =
+    elim pair.layout.mark as (λ mark. IsBegunRow mark pair (begun pair values) → IsPairedRow pair (begun pair values)) [ true ↦ λ u. inr u | false ↦ λ f. inl f ] (law pair values is fit)
 
 -- ---- the rows of a table
 
@@ -171,11 +168,9 @@ start_is : (s : State) (m : Migration) (plan : Plan) → startable s m ≡ Ok pl
 start_is s m plan h = let parts = startable_ok s m plan h in rw (parts.0, parts.1, parts.2) refl
 
 pub start_refused : (s : State) (m : Migration) (refusal : Refusal) → startable s m ≡ Err refusal → start_read s m ≡ Err refusal
-start_refused s m refusal h = by_may (may_not_start s m) h
-  where
-    by_may : (may : Option Refusal) → guarded may (and_then (planned s m) (λ plan. without (too_heavy s plan) plan)) ≡ Err refusal → guarded may (and_then (planned s m) (start_planned s m)) ≡ Err refusal
-    by_may None h = err_by (planned s m) (too_heavy s) (began s m) refusal h
-    by_may (Some fault) h = cc
+start_refused s m refusal h =
+    elim (may_not_start s m) as (λ may. guarded may (and_then (planned s m) (λ plan. without (too_heavy s plan) plan)) ≡ Err refusal → guarded may (and_then (planned s m) (start_planned s m)) ≡ Err refusal)
+    [ None ↦ λ h. err_by (planned s m) (too_heavy s) (began s m) refusal h | Some fault ↦ λ h. cc ] h
 
 -- A refusal leaves all as it was stored.
 pub stops : (stored : Stored) (outcome : CommandOutcome) (wanted : Result Plan Refusal) (stop : Stop Refusal) → Answers wanted (Err stop) → ((refusal : Refusal) → wanted ≡ Err refusal → outcome ≡ Err refusal) → Goes stored outcome (Err stop) stored
