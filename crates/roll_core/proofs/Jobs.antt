@@ -79,11 +79,11 @@ joins Old here both s number p on = subst (λ t. BesideStands Old t (Some (besid
 joins New here both s number p on = subst (λ t. BesideStands New t (Some (beside_on New both))) (some_same both.new here (sym p.new ∙ on)) (record { fitting = p.fitting; well_formed = p.well_formed })
 
 pub site_stands : Below → (s : State) (found : Found) → IsState s → TableStands s found → SiteStands (site_of s found)
-site_stands law s found is t = record { well_formed = t.well_formed; beside = by_shared (shared s (number_of found.table)) refl }
-  where
-    by_shared : (o : Option Shared) → shared s (number_of found.table) ≡ o → BesideStands found.side found.table (option_map (beside_on found.side) o)
-    by_shared None e = tt
-    by_shared (Some both) e = joins found.side found.table both s (number_of found.table) (law.shared s (number_of found.table) both is e) t.on_side
+site_stands law s found is t =
+    let number = number_of found.table in
+    let beside = elim (shared s number) as (λ o. shared s number ≡ o → BesideStands found.side found.table (option_map (beside_on found.side) o))
+    [ None ↦ λ e. tt | Some both ↦ λ e. joins found.side found.table both s number (law.shared s number both is e) t.on_side ] refl in
+    record { well_formed = t.well_formed; beside = beside }
 
 -- ---- the changes of a job
 

@@ -66,11 +66,9 @@ rows_stay pair (row ∷ rows) h =
 
 rows_filled : UnfilledRowsAreBegun → (pair : Pair) (rows : List StoredRow) → IsPair pair → AllByRecursion (λ row. is_marked pair row.1 ≡ false) rows → AllByRecursion (λ row. IsPairedRow pair row.1) rows → AllByRecursion (λ row. IsFilledRow pair row.1) rows
 rows_filled law pair [] is m h = tt
-rows_filled law pair (row ∷ rows) is m h = (filled row.1 m.0 h.0, rows_filled law pair rows is m.1 h.1)
-  where
-    filled : (values : List Value) → is_marked pair values ≡ false → IsPairedRow pair values → IsFilledRow pair values
-    filled values m (inl row) = row
-    filled values m (inr row) = let yes = (law pair values is row).1 in cc
+rows_filled law pair (row ∷ rows) is m h =
+    let not : is_marked pair row.1 ≡ false = m.0 in
+    (elim h.0 as (λ _. IsFilledRow pair row.1) [ inl filled ↦ filled | inr begun ↦ let yes = (law pair row.1 is begun).1 in cc ], rows_filled law pair rows is m.1 h.1)
 
 -- ---- lost columns
 
@@ -104,19 +102,16 @@ other_found own number (Some lens) rest e =
 
 lost_found : (fates : List (ℕ × Fate)) (number : ℕ) (tables : List StoredTable) → found (filter_map (lost_by fates) tables) number ≡ (if list_any (nat_eq number) (numbers_in tables) then amount (lens_among fates number) else 0)
 lost_found fates number [] = refl
-lost_found fates number (table ∷ tables) = by_test (nat_eq number table.number) refl (lost_found fates number tables)
-  where
-    rest : List (ℕ × ℕ)
-    rest = filter_map (lost_by fates) tables
-
-    there : Bool
-    there = list_any (nat_eq number) (numbers_in tables)
-
-    by_test : (b : Bool) → nat_eq number table.number ≡ b → found rest number ≡ (if there then amount (lens_among fates number) else 0) → found (cons_option (entry table.number (lens_among fates table.number)) rest) number ≡ (if b || there then amount (lens_among fates number) else 0)
-    by_test true e h =
-        let same : number ≡ table.number = grind (arith, nat_tests) in
-        subst (λ own. found (cons_option (entry own (lens_among fates own)) rest) number ≡ amount (lens_among fates number)) same (here_found number (lens_among fates number) rest there h)
-    by_test false e h = let differ : (table.number == number) ≡ false = grind (arith, nat_tests) in other_found table.number number (lens_among fates table.number) rest differ ∙ h
+lost_found fates number (table ∷ tables) =
+    let rest = filter_map (lost_by fates) tables in
+    let there = list_any (nat_eq number) (numbers_in tables) in
+    let more = lost_found fates number tables in
+    elim (nat_eq number table.number) as (λ b. nat_eq number table.number ≡ b → found (cons_option (entry table.number (lens_among fates table.number)) rest) number ≡ (if b || there then amount (lens_among fates number) else 0)) [
+      | true ↦ λ e.
+          let same : number ≡ table.number = grind (arith, nat_tests) in
+          subst (λ own. found (cons_option (entry own (lens_among fates own)) rest) number ≡ amount (lens_among fates number)) same (here_found number (lens_among fates number) rest there more)
+      | false ↦ λ e. let differ : (table.number == number) ≡ false = grind (arith, nat_tests) in other_found table.number number (lens_among fates table.number) rest differ ∙ more
+    ] refl
 
 -- ---- a table that stays
 

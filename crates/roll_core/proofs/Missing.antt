@@ -116,16 +116,10 @@ tells law frame tables runs live = each_place (Tells (meant frame tables)) table
 
 first_number : (s : State) (tables : List StoredTable) → Each (Tells s) tables → first_of (filter (has_missing s) (map (λ table. table.0) (map table_meant tables))) ≡ option_map (λ table. table.number) (find is_unfilled tables)
 first_number s [] h = refl
-first_number s (table ∷ tables) h = by_test (has_missing s table.number) (is_unfilled table) h.0 (first_number s tables h.1)
-  where
-    rest : List ℕ
-    rest = filter (has_missing s) (map (λ table. table.0) (map table_meant tables))
-
-    by_test : (a b : Bool) → a ≡ b → first_of rest ≡ option_map (λ table. table.number) (find is_unfilled tables) → first_of (if a then table.number ∷ rest else rest) ≡ option_map (λ table. table.number) (if b then Some table else find is_unfilled tables)
-    by_test true true e there = refl
-    by_test true false e there = cc
-    by_test false true e there = cc
-    by_test false false e there = there
+first_number s (table ∷ tables) h =
+    let rest = filter (has_missing s) (map (λ table. table.0) (map table_meant tables)) in
+    ap (λ b. first_of (if b then table.number ∷ rest else rest)) h.0
+    ∙ elim (is_unfilled table) as (λ b. first_of (if b then table.number ∷ rest else rest) ≡ option_map (λ table. table.number) (if b then Some table else find is_unfilled tables)) [ true ↦ refl | false ↦ first_number s tables h.1 ]
 
 found_first : (tables : List StoredTable) (first : Option ℕ) → FirstUnfilled tables first → option_map (λ table. table.number) (find is_unfilled tables) ≡ option_and_then (number_at tables) first
 found_first tables None h = ap (option_map (λ (table : StoredTable). table.number)) h

@@ -17,15 +17,13 @@ use Rattle.roll_core.proofs.Tables.{IsRead, each_of, rows_of-read}
 
 row_found : (form : Form) (key : ℤ) (rows : List StoredRow) → row_of key (map (kept form) rows) ≡ option_map (λ values. kept form (key, values)) (find int_cmp key rows)
 row_found form key [] = refl
-row_found form key (row ∷ rows) = by_test (eq_by_cmp int_cmp key row.0) refl (row_found form key rows)
-  where
-    by_test : (b : Bool) → eq_by_cmp int_cmp key row.0 ≡ b → row_of key (map (kept form) rows) ≡ option_map (λ values. kept form (key, values)) (find int_cmp key rows)
-        → cond (int_eq row.0 key) (Some (kept form row)) (row_of key (map (kept form) rows)) ≡ option_map (λ values. kept form (key, values)) (cond b (Some row.1) (find int_cmp key rows))
-    by_test true e there =
-        let turned : int_eq row.0 key ≡ true = int_eq_equiv.symm row.0 key ∙ e in
-        let same : row.0 ≡ key = grind (arith, Decides-int_eq row.0 key) in
-        rw turned (ap (λ (k : ℤ). Some (kept form (k, row.1))) same)
-    by_test false e there = let turned : int_eq row.0 key ≡ false = int_eq_equiv.symm row.0 key ∙ e in rw turned there
+row_found form key (row ∷ rows) =
+    let rest = row_of key (map (kept form) rows) in
+    ap (λ b. cond b (Some (kept form row)) rest) (int_eq_equiv.symm row.0 key)
+    ∙ elim (eq_by_cmp int_cmp key row.0) as (λ b. eq_by_cmp int_cmp key row.0 ≡ b → cond b (Some (kept form row)) rest ≡ option_map (λ values. kept form (key, values)) (cond b (Some row.1) (find int_cmp key rows))) [
+      | true ↦ λ e. let turned : int_eq row.0 key ≡ true = int_eq_equiv.symm row.0 key ∙ e in let same : row.0 ≡ key = grind (arith, Decides-int_eq row.0 key) in ap (λ (k : ℤ). Some (kept form (k, row.1))) same
+      | false ↦ λ e. row_found form key rows
+    ] refl
 
 keys_ascend : (form : Form) (rows : List StoredRow) → T (is_sorted int_cmp rows) → KeysAscend (map (kept form) rows)
 keys_ascend form [] s = tt

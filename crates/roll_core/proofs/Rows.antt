@@ -28,14 +28,13 @@ has_key-meant form key rows got is = sym (copied_some got) ∙ ap is_some is ∙
 -- A stored row is put where the row that it means is put.
 pub put-meant : (form : Form) (row : Kept) (values : List Value) → kept form (row.key, values) ≡ row → (rows : List StoredRow) → map (kept form) (put int_cmp row.key values rows) ≡ put_row row (map (kept form) rows)
 put-meant form row values is [] = ap (λ r. r ∷ []) is
-put-meant form row values is (first ∷ rows) = by_order (int_cmp row.key first.0) refl (put-meant form row values is rows)
-  where
-    by_order : (o : Ordering) → int_cmp row.key first.0 ≡ o → map (kept form) (put int_cmp row.key values rows) ≡ put_row row (map (kept form) rows)
-        → map (kept form) (picked o ((row.key, values) ∷ first ∷ rows) ((first.0, values) ∷ rows) (first ∷ put int_cmp row.key values rows))
-        ≡ match_ordering o (row ∷ kept form first ∷ map (kept form) rows) (row ∷ map (kept form) rows) (kept form first ∷ put_row row (map (kept form) rows))
-    by_order Less e there = ap (λ r. r ∷ kept form first ∷ map (kept form) rows) is
-    by_order Equal e there = ap (λ r. r ∷ map (kept form) rows) (ap (λ k. kept form (k, values)) (sym (finite.int_cmp-IsAntisymmetric row.key first.0 e)) ∙ is)
-    by_order Greater e there = ap (λ rest. kept form first ∷ rest) there
+put-meant form row values is (first ∷ rows) =
+    elim (int_cmp row.key first.0) as (λ o. int_cmp row.key first.0 ≡ o → map (kept form) (picked o ((row.key, values) ∷ first ∷ rows) ((first.0, values) ∷ rows) (first ∷ put int_cmp row.key values rows))
+    ≡ match_ordering o (row ∷ kept form first ∷ map (kept form) rows) (row ∷ map (kept form) rows) (kept form first ∷ put_row row (map (kept form) rows))) [
+      | Less ↦ λ e. ap (λ r. r ∷ kept form first ∷ map (kept form) rows) is
+      | Equal ↦ λ e. ap (λ r. r ∷ map (kept form) rows) (ap (λ k. kept form (k, values)) (sym (finite.int_cmp-IsAntisymmetric row.key first.0 e)) ∙ is)
+      | Greater ↦ λ e. ap (λ rest. kept form first ∷ rest) (put-meant form row values is rows)
+    ] refl
 
 -- What holds of the values of each row and of the new ones holds of all.
 pub put_all_hold : (P : List Value → Type 0) (key : ℤ) (values : List Value) → P values → (rows : List StoredRow) → AllByRecursion (λ row. P row.1) rows → AllByRecursion (λ row. P row.1) (put int_cmp key values rows)

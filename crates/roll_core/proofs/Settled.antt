@@ -110,18 +110,14 @@ too_many-is law frame tables at found table what m all stores counts =
 refused_same : Below → (frame : State) (tables : List StoredTable) (at : ℕ) (found : Found) (table : OwnTable) (what : Job) → Meets frame tables at found table what → (all : List Change) → changes (site_of frame found) what (rows_meant (seen table)) ≡ Ok all
     → statement.refused_all (meant frame tables) (site_of frame found) what all ≡ refused_all (seen table) (stored_count tables) (site_of frame found) what all
 refused_same law frame tables at found table what m all e =
-    ap (λ rows. option_or (option_map error_reply (refused_together site what rows all)) (statement.too_many (meant frame tables) site all)) (rows_are_read law frame tables at found table what m)
-    ∙ by_cause (refused_together site what older all) refl
-  where
-    site : Site
-    site = site_of frame found
-
-    older : List Kept
-    older = rows_meant (seen table)
-
-    by_cause : (o : Option SqlError) → refused_together site what older all ≡ o → option_or (option_map error_reply o) (statement.too_many (meant frame tables) site all) ≡ option_or (option_map error_reply o) (too_many_error (stored_count tables) what all)
-    by_cause (Some error) none = refl
-    by_cause None none = too_many-is law frame tables at found table what m all (table_stores law frame tables at found table what m all e none) (job_counts site table.form table.rows.rows what all e (keys_accepted site what older all none))
+    let site = site_of frame found in
+    let older = rows_meant (seen table) in
+    let machine = statement.too_many (meant frame tables) site all in
+    ap (λ rows. option_or (option_map error_reply (refused_together site what rows all)) machine) (rows_are_read law frame tables at found table what m)
+    ∙ elim (refused_together site what older all) as (λ o. refused_together site what older all ≡ o → option_or (option_map error_reply o) machine ≡ option_or (option_map error_reply o) (too_many_error (stored_count tables) what all)) [
+      | Some error ↦ λ none. refl
+      | None ↦ λ none. too_many-is law frame tables at found table what m all (table_stores law frame tables at found table what m all e none) (job_counts site table.form table.rows.rows what all e (keys_accepted site what older all none))
+    ] refl
 
 -- ---- the outcome
 
@@ -132,19 +128,16 @@ guarded_next (Some fault) x f = refl
 written_is : Below → (frame : State) (tables : List StoredTable) (at : ℕ) (found : Found) (table : OwnTable) (what : Job) → Meets frame tables at found table what
     → statement.written (meant frame tables) (site_of frame found) what ≡ and_then (accepted (seen table) (stored_count tables) (site_of frame found) what) (λ all. Ok (statement.changed (meant frame tables) (site_of frame found) what all))
 written_is law frame tables at found table what m =
-    ap (λ rows. and_then (map_fault (λ cause. error_reply (row_error cause)) (changes site what rows)) (statement.settled s site what)) (rows_are_read law frame tables at found table what m)
-    ∙ by_changes (changes site what (rows_meant (seen table))) refl
-  where
-    s : State
-    s = meant frame tables
-
-    site : Site
-    site = site_of frame found
-
-    by_changes : (r : Result (List Change) Cause) → changes site what (rows_meant (seen table)) ≡ r → and_then (map_fault (λ cause. error_reply (row_error cause)) r) (statement.settled s site what) ≡ and_then (and_then (map_fault (λ cause. error_reply (row_error cause)) r) (λ all. guarded (refused_all (seen table) (stored_count tables) site what all) (Ok all))) (λ all. Ok (statement.changed s site what all))
-    by_changes (Ok all) e =
-        ap (λ (o : Option Reply). guarded {T = Done} o (Ok (statement.changed s site what all))) (refused_same law frame tables at found table what m all e) ∙ guarded_next (refused_all (seen table) (stored_count tables) site what all) all (statement.changed s site what)
-    by_changes (Err cause) e = refl
+    let s = meant frame tables in
+    let site = site_of frame found in
+    let rows = rows_meant (seen table) in
+    let of = λ (r : Result (List Change) Cause). map_fault (λ cause. error_reply (row_error cause)) r in
+    let refused = refused_all (seen table) (stored_count tables) site what in
+    ap (λ rows. and_then (of (changes site what rows)) (statement.settled s site what)) (rows_are_read law frame tables at found table what m)
+    ∙ elim (changes site what rows) as (λ r. changes site what rows ≡ r → and_then (of r) (statement.settled s site what) ≡ and_then (and_then (of r) (λ all. guarded (refused all) (Ok all))) (λ all. Ok (statement.changed s site what all))) [
+      | Ok all ↦ λ e. ap (λ (o : Option Reply). guarded {T = Done} o (Ok (statement.changed s site what all))) (refused_same law frame tables at found table what m all e) ∙ guarded_next (refused all) all (statement.changed s site what)
+      | Err cause ↦ λ e. refl
+    ] refl
 
 accepted_parts : (table : StoredTable) (count : ℕ) (site : Site) (what : Job) (all : List Change) → accepted table count site what ≡ Ok all → (changes site what (rows_meant table) ≡ Ok all) × (refused_together site what (rows_meant table) all ≡ None)
 accepted_parts table count site what all e =

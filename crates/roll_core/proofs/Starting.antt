@@ -59,39 +59,32 @@ record IsBegun (frame : State) (plan : Plan) (table : StoredTable) : Type 0 wher
   lost : lost_columns_by (begun_form frame plan table.number) ≡ 0
 
 is_begun : Below → (frame : State) (all : List StoredTable) (plan : Plan) (table : StoredTable) → Begins frame plan → RowsStand (meant frame all) table.number (map (kept Own) table.rows) → IsBegun frame plan table
-is_begun law frame all plan table b stand = by_lens (lens_among plan.fates table.number) refl
-  where
-    number : ℕ
-    number = table.number
-
-    meant_by : Option Lens → ℕ × List Kept
-    meant_by lens = option_map_or {U = ℕ × List Kept} (λ lens. (number, map (begun_row lens) (map (kept Own) table.rows))) lens (number, map (kept Own) table.rows)
-
-    table_by : Form → StoredTable
-    table_by form = record { number = number; form = form; rows = map (stepped_row form) table.rows }
-
-    by_lens : (lens : Option Lens) → lens_among plan.fates number ≡ lens → IsBegun frame plan table
-    by_lens None l =
-        let form : begun_form frame plan number ≡ Own = ap (over_pair Paired) (shared_among frame.schema plan.schema plan.fates number l) in
-        let next = rows_next Own Own (kept Own) table.rows (each_all (λ row. (refl, tt)) table.rows) in
-        record {
-          means = ap (λ form. table_meant (table_by form)) form ∙ ap (λ (rows : List Kept). (number, rows)) next.0 ∙ ap meant_by (sym l);
-          rows = subst (λ form. AllByRecursion (λ row. IsStoredRow form row.1) (map (stepped_row form) table.rows)) (sym form) next.1;
-          lost = ap lost_columns_by form;
-        }
-    by_lens (Some lens) l =
-        let found = joined_both frame.schema plan.schema plan.fates number lens l (b.joined number lens l) in
-        let both = found.0 in
-        let parts = shared_parts (lens_among plan.fates number) (table_numbered plan.schema number) (table_numbered frame.schema number) both found.1 in
-        let is = joined_pair frame.schema plan.schema plan.fates number both b.old b.new found.1 (b.joined number both.lens parts.2) in
-        let form : begun_form frame plan number ≡ Paired (pair_over both) = ap (over_pair Paired) found.1 in
-        let next = rows_next (Paired (pair_over both)) (Paired (pair_over both)) (λ row. begun_row both.lens (kept Own row)) table.rows
-        (rows_begin law (meant frame all) number both table.rows is parts.0 stand) in
-        record {
-          means = ap (λ form. table_meant (table_by form)) form ∙ ap (λ (rows : List Kept). (number, rows)) (next.0 ∙ sym (map-map (begun_row both.lens) (kept Own) table.rows)) ∙ ap meant_by (sym parts.2);
-          rows = subst (λ form. AllByRecursion (λ row. IsStoredRow form row.1) (map (stepped_row form) table.rows)) (sym form) next.1;
-          lost = ap lost_columns_by form;
-        }
+is_begun law frame all plan table b stand =
+    let number = table.number in
+    let meant_by = λ (lens : Option Lens). option_map_or {U = ℕ × List Kept} (λ lens. (number, map (begun_row lens) (map (kept Own) table.rows))) lens (number, map (kept Own) table.rows) in
+    let table_by : Form → StoredTable = λ form. record { number = number; form = form; rows = map (stepped_row form) table.rows } in
+    elim (lens_among plan.fates number) as (λ lens. lens_among plan.fates number ≡ lens → IsBegun frame plan table) [
+      | None ↦ λ l.
+          let form : begun_form frame plan number ≡ Own = ap (over_pair Paired) (shared_among frame.schema plan.schema plan.fates number l) in
+          let next = rows_next Own Own (kept Own) table.rows (each_all (λ row. (refl, tt)) table.rows) in
+          record {
+            means = ap (λ form. table_meant (table_by form)) form ∙ ap (λ (rows : List Kept). (number, rows)) next.0 ∙ ap meant_by (sym l);
+            rows = subst (λ form. AllByRecursion (λ row. IsStoredRow form row.1) (map (stepped_row form) table.rows)) (sym form) next.1;
+            lost = ap lost_columns_by form;
+          }
+      | Some lens ↦ λ l.
+          let found = joined_both frame.schema plan.schema plan.fates number lens l (b.joined number lens l) in
+          let both = found.0 in
+          let parts = shared_parts (lens_among plan.fates number) (table_numbered plan.schema number) (table_numbered frame.schema number) both found.1 in
+          let is = joined_pair frame.schema plan.schema plan.fates number both b.old b.new found.1 (b.joined number both.lens parts.2) in
+          let form : begun_form frame plan number ≡ Paired (pair_over both) = ap (over_pair Paired) found.1 in
+          let next = rows_next (Paired (pair_over both)) (Paired (pair_over both)) (λ row. begun_row both.lens (kept Own row)) table.rows (rows_begin law (meant frame all) number both table.rows is parts.0 stand) in
+          record {
+            means = ap (λ form. table_meant (table_by form)) form ∙ ap (λ (rows : List Kept). (number, rows)) (next.0 ∙ sym (map-map (begun_row both.lens) (kept Own) table.rows)) ∙ ap meant_by (sym parts.2);
+            rows = subst (λ form. AllByRecursion (λ row. IsStoredRow form row.1) (map (stepped_row form) table.rows)) (sym form) next.1;
+            lost = ap lost_columns_by form;
+          }
+    ] refl
 
 -- ---- all tables
 

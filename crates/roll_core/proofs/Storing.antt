@@ -54,21 +54,13 @@ left_weight : (cells : List Cell) (values held olds : List Value) (k : ℕ) → 
 left_weight [] values held olds k l same = refl
 left_weight (cell ∷ cells) values held [] k l same = absurd (omega arith)
 left_weight (cell ∷ cells) values held (old ∷ olds) k l same =
-    let here : slice_index_or held k Null ≡ old = ap (λ n. slice_index_or held n Null) (sym (add_none k)) ∙ same 0 (omega arith) in
-    let rest = left_weight cells values held olds (k + 1) (omega arith) (λ i few. ap (λ n. slice_index_or held n Null) (one_on k i) ∙ same (suc i) (omega arith)) in
+    let none : k ≡ k + 0 = omega arith in
+    let here : slice_index_or held k Null ≡ old = ap (λ n. slice_index_or held n Null) none ∙ same 0 (omega arith) in
+    let behind = λ (i : ℕ) (few : i < length cells). let on : k + 1 + i ≡ k + suc i = omega arith in ap (λ n. slice_index_or held n Null) on ∙ same (suc i) (omega arith) in
+    let rest = left_weight cells values held olds (k + 1) (omega arith) behind in
+    let first = elim cell as (λ cell. lost_value (cell, left_value values held (k, cell)) ≡ lost_value (cell, old)) [ Carry from ↦ refl | Make up ↦ ap value_weight here | Still constant ↦ ap value_weight here ] in
     add_lost cell (left_value values held (k, cell)) cells (map (left_value values held) (enumerate_from (k + 1) cells))
-    ∙ ap (λ n. n + lost_weight cells (map (left_value values held) (enumerate_from (k + 1) cells))) (by_cell cell here) ∙ ap (λ n. lost_value (cell, old) + n) rest ∙ sym (add_lost cell old cells olds)
-  where
-    add_none : (n : ℕ) → n + 0 ≡ n
-    add_none n = omega arith
-
-    one_on : (n i : ℕ) → n + 1 + i ≡ n + suc i
-    one_on n i = omega arith
-
-    by_cell : (cell : Cell) → slice_index_or held k Null ≡ old → lost_value (cell, left_value values held (k, cell)) ≡ lost_value (cell, old)
-    by_cell (Carry from) e = refl
-    by_cell (Make up) e = ap value_weight e
-    by_cell (Still constant) e = ap value_weight e
+    ∙ ap (λ n. n + lost_weight cells (map (left_value values held) (enumerate_from (k + 1) cells))) first ∙ ap (λ n. lost_value (cell, old) + n) rest ∙ sym (add_lost cell old cells olds)
 
 one_more : {a b n : ℕ} → Cell → a ≡ 1 + b → b ≡ n → a ≡ suc n
 one_more cell e f = omega (arith, e, f)

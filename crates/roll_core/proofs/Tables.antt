@@ -80,13 +80,10 @@ among : (numbers : List ℕ) (number : ℕ) (tables : List Table) (table : Table
 among numbers number [] table h e = cc
 among numbers number (first ∷ tables) table h e =
     let parts = both (list_any (nat_eq (number_of first)) numbers) (list_all (λ (table : Table). list_any (nat_eq (number_of table)) numbers) tables) h in
-    by_test parts.0 (among numbers number tables table parts.1) (first.1 == number) refl e
-  where
-    by_test : list_any (nat_eq (number_of first)) numbers ≡ true → (find {X = Table} (λ table. table.1 == number) tables ≡ Some table → list_any (nat_eq number) numbers ≡ true) → (b : Bool) → (first.1 == number) ≡ b → (if b then Some first else find {X = Table} (λ table. table.1 == number) tables) ≡ Some table → list_any (nat_eq number) numbers ≡ true
-    by_test here there true k e =
-        let same : first.1 ≡ number = grind (arith, nat_tests) in
-        subst (λ n. list_any (nat_eq n) numbers ≡ true) same here
-    by_test here there false k e = there e
+    elim (first.1 == number) as (λ b. (first.1 == number) ≡ b → (if b then Some first else find {X = Table} (λ table. table.1 == number) tables) ≡ Some table → list_any (nat_eq number) numbers ≡ true) [
+      | true ↦ λ k e. let same : first.1 ≡ number = grind (arith, nat_tests) in subst (λ n. list_any (nat_eq n) numbers ≡ true) same parts.0
+      | false ↦ λ k e. among numbers number tables table parts.1 e
+    ] refl e
 
 newer_among : (s : State) (mode : Mode) → ModeStands s mode → (number : ℕ) (table : Table) → option_and_then (λ schema. table_numbered schema number) (newer_schema mode) ≡ Some table → list_any (nat_eq number) (numbers_of s) ≡ true
 newer_among s Calm h number table e = cc
