@@ -1,5 +1,5 @@
 -- The rows that a job puts: their keys, their lost weights, and that both halves are there where both versions have the table.
-use Rattle.roll_core.proofs.Words.{◌≡◌, ◌∙◌, ℕ, ℤ, List, [], ◌∷◌, Bool, true, false, Option, Some, None, Result, Ok, is_some, if◌then◌else◌, map, ap, refl, sym, subst, Each, filter_map, option_map_or}
+use Rattle.roll_core.proofs.Words.{◌≡◌, ◌∙◌, ℕ, ℤ, List, [], ◌∷◌, true, false, Option, Some, None, Result, Ok, is_some, if◌then◌else◌, map, ap, refl, sym, subst, Each, filter_map, option_map_or}
 use Rattle.roll_core.proofs.Words.{and_then_ok, ok_same, and_then, every, Value, sound, wrong, value_cause, altered, altered_halves, altered_row, changes, filled_row, matching, new_row, passes}
 use Rattle.roll_core.proofs.Words.{remade, row_passed, map_fault, Beside, Site, half, half_beside, halves_on, key_of, other, other_half, shape_of, shown, touched, touched_by, Expr, New, Old, Side}
 use Rattle.roll_core.proofs.Words.{Cause, Change, Put, Remove, Halves, Job, Kept, OfPut}

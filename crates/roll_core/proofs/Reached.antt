@@ -1,8 +1,8 @@
 -- The rows that a statement looks at: they show their keys, and the row of one key is found by it.
-use Rattle.roll_core.proofs.Words.{ℕ, arith, ◌≡◌, ◌∙◌, ℤ, List, [], ◌∷◌, Bool, true, false, Option, Some, None, cond, option_map, int_cmp, int_eq, map, ap, refl, sym, subst, Decides-int_eq}
-use Rattle.roll_core.proofs.Words.{int_eq_equiv, eq_by_cmp, T, is_sorted, below_all, is_lt, Value, Job, Kept, Site, Beside, Table, Side, Old, New, State, BesideStands, HalfStands, NewStands, Rows}
-use Rattle.roll_core.proofs.Words.{AltersWithin, HasHalf, KeysAscend, ReachesOne, RemovesWithin, ShowKeys, SideStands, row_alone, row_of, rows_reached, changes, number_of, shape_of, may_miss_beside}
-use Rattle.roll_core.proofs.Words.{table_by, new_table_by, has_mark, site_of, Below, Form, IsSite, Runs, StoredRow, StoredTable, job_reach, kept, meant, rows_meant}
+use Rattle.roll_core.proofs.Words.{ℕ, arith, ◌≡◌, ◌∙◌, ℤ, List, [], ◌∷◌, true, false, Option, Some, None, cond, option_map, int_cmp, int_eq, map, ap, refl, sym, subst, Decides-int_eq, int_eq_equiv}
+use Rattle.roll_core.proofs.Words.{eq_by_cmp, T, is_sorted, below_all, is_lt, Value, Job, Kept, Site, Beside, Table, Side, Old, New, State, BesideStands, HalfStands, NewStands, Rows, AltersWithin}
+use Rattle.roll_core.proofs.Words.{HasHalf, KeysAscend, ReachesOne, RemovesWithin, ShowKeys, SideStands, row_alone, row_of, rows_reached, changes, number_of, shape_of, may_miss_beside, table_by}
+use Rattle.roll_core.proofs.Words.{new_table_by, has_mark, site_of, Below, Form, IsSite, Runs, StoredRow, StoredTable, job_reach, kept, meant, rows_meant}
 use Rattle.roll_core.proofs.Words.finite
 use Rattle.roll_core.proofs.Words.job
 use Rattle.row_rules.specs.InReach as reach

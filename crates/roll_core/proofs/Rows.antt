@@ -1,8 +1,8 @@
 -- Stored rows and the rows that they mean, also after changes.
-use Rattle.roll_core.proofs.Words.{Bor, ◌≡◌, ◌∙◌, ℤ, List, [], ◌∷◌, Bool, true, false, ◌||◌, not, Option, Some, None, is_some, int_cmp, int_eq, Ordering, Less, Equal, Greater, ap, refl, sym, length}
-use Rattle.roll_core.proofs.Words.{map, filter, cond, put, picked, where_key, int_eq_equiv, AllByRecursion, list_any, option_copied, eq_by_cmp, match_ordering, Value, Kept, put_row, Rows, Form}
-use Rattle.roll_core.proofs.Words.{StoredRow, kept, arith, ◌≤◌, ◌+◌, ℕ, subst, int_cmp_total, Change, Put, Remove, after_change, after_changes, OfPut, RemovedIsLeftOut, StoredChange, put_all}
-use Rattle.roll_core.proofs.Words.{put_stored, stored_change, IsStoredRow}
+use Rattle.roll_core.proofs.Words.{Bor, ◌≡◌, ◌∙◌, ℤ, List, [], ◌∷◌, true, false, ◌||◌, not, Option, Some, None, is_some, int_cmp, int_eq, Less, Equal, Greater, ap, refl, sym, length, map, filter}
+use Rattle.roll_core.proofs.Words.{cond, put, picked, where_key, int_eq_equiv, AllByRecursion, list_any, option_copied, eq_by_cmp, match_ordering, Value, Kept, put_row, Rows, Form, StoredRow, kept}
+use Rattle.roll_core.proofs.Words.{arith, ◌≤◌, ◌+◌, ℕ, subst, int_cmp_total, Change, Put, Remove, after_change, after_changes, OfPut, RemovedIsLeftOut, StoredChange, put_all, put_stored}
+use Rattle.roll_core.proofs.Words.{stored_change, IsStoredRow}
 use Rattle.roll_core.proofs.Words.finite
 use Rattle.roll_core.proofs.Storing.{StoresRow}
 

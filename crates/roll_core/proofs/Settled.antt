@@ -1,12 +1,12 @@
 -- What a statement changes in its table is accepted or refused as the machine has it, and leads to what the machine says.
 use Rattle.roll_core.proofs.Words.{either_none, slice_get-get_or, arith, ◌≡◌, ◌≤◌, ◌<◌, ◌∙◌, ◌^◌, ◌-◌, min, ℕ, ◌+◌, ℤ, List, [], ◌∷◌, true, false, Option, Some, None, Result, Ok, Err, if◌then◌else◌}
 use Rattle.roll_core.proofs.Words.{is_some, nat_lt, length, map, int_cmp, ap, refl, sym, subst, option_map, slice_get, slice_index_or, slice_set, Each, option_or, nat_tests, length-map, and_then_ok}
-use Rattle.roll_core.proofs.Words.{ok_same, some_same, and_then, every, Cause, Change, Put, Remove, Job, Kept, SqlError, clashes, has_key, total_weight, heavy_statement, max_total, row_error}
-use Rattle.roll_core.proofs.Words.{after_changes, altered_row, cause_together, changes, keys_changed, matching, new_keys_cause, refused_together, rows_put, Stop, Because, NoMemory, Answers, guarded}
-use Rattle.roll_core.proofs.Words.{map_fault, Site, number_of, shape_of, Reply, State, Done, Outcome, leaves_all, JobStands, OfPut, TableStands, Found, lost_columns_of, row_count, rows_of, site_of}
-use Rattle.roll_core.proofs.Words.{with_rows, error_reply, max_rows, too_many_rows, written_reply, Rows, IsState, Form, OwnTable, changed, rows_after, with_changes, Comes, FormSuits, IsSite}
-use Rattle.roll_core.proofs.Words.{IsStatement, Runs, RowsStored, SameForms, accepted, meant, refused_all, stored_count, too_many, too_many_error, own_count, seen, StoredRow, StoredTable, kept}
-use Rattle.roll_core.proofs.Words.{lost_columns_by, rows_meant, Below}
+use Rattle.roll_core.proofs.Words.{ok_same, some_same, and_then, every, Cause, Change, Put, Remove, Job, Kept, clashes, has_key, total_weight, heavy_statement, max_total, row_error, after_changes}
+use Rattle.roll_core.proofs.Words.{altered_row, cause_together, changes, keys_changed, matching, new_keys_cause, refused_together, rows_put, Stop, Because, NoMemory, Answers, guarded, map_fault, Site}
+use Rattle.roll_core.proofs.Words.{number_of, shape_of, Reply, State, Done, Outcome, leaves_all, JobStands, OfPut, TableStands, Found, lost_columns_of, row_count, rows_of, site_of, with_rows}
+use Rattle.roll_core.proofs.Words.{error_reply, max_rows, too_many_rows, written_reply, Rows, IsState, Form, OwnTable, changed, rows_after, with_changes, Comes, FormSuits, IsSite, IsStatement, Runs}
+use Rattle.roll_core.proofs.Words.{RowsStored, SameForms, accepted, meant, refused_all, stored_count, too_many, too_many_error, own_count, seen, StoredRow, StoredTable, kept, lost_columns_by}
+use Rattle.roll_core.proofs.Words.{rows_meant, Below}
 use Rattle.roll_core.proofs.Words.finite
 use Rattle.roll_core.proofs.Words.job
 use Rattle.roll_core.proofs.Words.statement
@@ -17,7 +17,7 @@ use Rattle.roll_core.proofs.Counted.{new_count, removed_count, rows_are, same_co
 use Rattle.roll_core.proofs.Fitting.{sorted_found}
 use Rattle.roll_core.proofs.Made.{Placed, changes_placed}
 use Rattle.roll_core.proofs.Outcomes.{guarded_ok, map_fault_ok, none_mapped}
-use Rattle.roll_core.proofs.Tables.{IsRead, all_at, count_seen, count_set, count_meant, rows_of-read, suits_meant}
+use Rattle.roll_core.proofs.Tables.{IsRead, all_at, count_seen, count_set, count_meant, read_at, rows_of-read, suits_meant}
 use Rattle.roll_core.proofs.Jobs.{leaves, new_fresh, statement_stores}
 
 keys_accepted : (site : Site) (what : Job) (older : List Kept) (all : List Change) → refused_together site what older all ≡ None → new_keys_cause site what older all ≡ None
@@ -175,28 +175,6 @@ settled_at law frame tables at found table what m all e =
       stored = left.stored;
     }
 
--- ---- over the site
-
--- A statement's job meets the table at a place through this site.
-pub record Meeting (frame : State) (tables : List StoredTable) (at : ℕ) (table : OwnTable) (what : Job) (site : Site) : Type 0 where
-  pub runs : Runs frame tables
-  pub read : IsRead tables at (number_of site.here) (seen table)
-  pub said : IsStatement what
-  pub settled : JobStands (shape_of site.here) what
-
--- What it comes to there, by the changes that are accepted.
-pub record Writing (frame : State) (tables : List StoredTable) (at : ℕ) (table : OwnTable) (what : Job) (site : Site) : Type 0 where
-  pub settles : (all : List Change) → accepted (seen table) (stored_count tables) site what ≡ Ok all → Settled frame tables (statement.written (meant frame tables) site what) (written_reply site what all) (slice_set tables at (changed all table))
-  pub refuses : (reply : Reply) → accepted (seen table) (stored_count tables) site what ≡ Err reply → statement.written (meant frame tables) site what ≡ Err reply
-
-pub writing_on : Below → (frame : State) (tables : List StoredTable) (at : ℕ) (table : OwnTable) (what : Job) (site : Site) → IsSite frame site → Meeting frame tables at table what site → Writing frame tables at table what site
-writing_on law frame tables at table what site is = subst (λ site. Meeting frame tables at table what site → Writing frame tables at table what site) (sym is.1) (λ m.
-    let meets : Meets frame tables at is.0 table what = record { runs = m.runs; stands = is.2; read = m.read; said = m.said; settled = m.settled } in
-    record {
-      settles = settled_at law frame tables at is.0 table what meets;
-      refuses = λ reply e. written_is law frame tables at is.0 table what meets ∙ ap (λ (r : Result (List Change) Reply). and_then r (λ all. Ok (statement.changed (meant frame tables) (site_of frame is.0) what all))) e;
-    })
-
 -- ---- what the calls answer
 
 -- The number of rows is counted, where they are as few as there may be.
@@ -206,6 +184,24 @@ count_is frame own count stands e =
     let same = count_seen own in
     let is : count ≡ stored_count (map seen own) = omega (arith, few, same, e) in
     (is, subst (λ n. n ≤ 262144) (sym is) few)
+
+-- What it comes to through this site, where there are so many rows, by the changes that are accepted.
+pub record Writing (frame : State) (tables : List StoredTable) (at : ℕ) (table : OwnTable) (what : Job) (site : Site) (count : ℕ) : Type 0 where
+  pub settles : (all : List Change) → accepted (seen table) count site what ≡ Ok all → Settled frame tables (statement.written (meant frame tables) site what) (written_reply site what all) (slice_set tables at (changed all table))
+  pub refuses : (reply : Reply) → accepted (seen table) count site what ≡ Err reply → statement.written (meant frame tables) site what ≡ Err reply
+
+pub writing_at : Below → (frame : State) (own : List OwnTable) (at : ℕ) (d : OwnTable) (what : Job) (site : Site) (count : ℕ) → Runs frame (map seen own) → IsSite frame site → IsStatement what → JobStands (shape_of site.here) what
+    → at < length own → option_map (λ table. table.number) (slice_get own at) ≡ Some (number_of site.here) → count ≡ min (own_count own) (2 ^ 64 - 1) → Writing frame (map seen own) at (slice_index_or own at d) what site count
+writing_at law frame own at d what site count runs is said settled h n e =
+    let tables = map seen own in
+    let table = slice_index_or own at d in
+    let on = subst (λ site. IsRead tables at (number_of site.here) (seen table) → JobStands (shape_of site.here) what → Writing frame tables at table what site (stored_count tables)) (sym is.1) (λ read settled.
+    let meets : Meets frame tables at is.0 table what = record { runs = runs; stands = is.2; read = read; said = said; settled = settled } in
+    record {
+      settles = settled_at law frame tables at is.0 table what meets;
+      refuses = λ reply e. written_is law frame tables at is.0 table what meets ∙ ap (λ (r : Result (List Change) Reply). and_then r (λ all. Ok (statement.changed (meant frame tables) (site_of frame is.0) what all))) e;
+    }) in
+    subst (Writing frame tables at table what site) (sym (count_is frame own count runs.stands e).0) (on (read_at own at (number_of site.here) d table h n refl) settled)
 
 pub refused_comes : (frame : State) (tables : List StoredTable) (outcome : Outcome) (wanted : Result (List Change) Reply) (stop : Stop Reply) (result : Result Reply (Stop Reply)) → result ≡ Err stop → Answers {T = List Change} wanted (Err stop) → ((reply : Reply) → wanted ≡ Err reply → outcome ≡ Err reply) → Comes frame tables outcome result tables
 refused_comes frame tables outcome wanted (Because reply) result e a h = subst (λ r. Comes frame tables outcome r tables) (sym e) (h reply a, refl)

@@ -9,9 +9,8 @@ use Rattle.roll_core.proofs.Words.{StoredTable, form_in, kept, lost_columns_by, 
 use Rattle.roll_core.proofs.Words.reply_of
 use Rattle.trigger_pair.specs.Stored.{begun}
 use Rattle.roll_core.proofs.Outcomes.{err_by, guarded_ok, without_ok}
-use Rattle.roll_core.proofs.Stepped.{StepsTo, rows_next}
+use Rattle.roll_core.proofs.Stepped.{StepsTo, rows_next, no_form}
 use Rattle.roll_core.proofs.Tables.{each_all, each_mapped, none_lost}
-use Rattle.roll_core.proofs.Tidying.{no_form}
 use Rattle.roll_core.proofs.Runs.{joined_both, joined_pair, shared_among, shared_parts}
 
 -- ---- one row

@@ -2,7 +2,7 @@
 pub use Rattle.std.proofs.Common.{Bool, Bor, Equal, Err, Greater, Less, List, None, Ok, OnErr, Option, Ordering, Result, Some, [], add-one, ap, append_assoc, arith, cond, drop, false, filter, find, if◌then◌else◌, inl, inr, int_cmp, int_eq, is_some, le_of_eq, length, map, min, nat_eq, nat_lt, not, option_and_then, option_map, refl, rules, subst, suc, sym, take, true, zero, zero-add, ℕ, ℤ, ◌&&◌, ◌++◌, ◌+◌, ◌-◌, ◌<◌, ◌==◌, ◌^◌, ◌||◌, ◌∙◌, ◌∷◌, ◌≡◌, ◌≤◌, ◌⊎◌}
 pub use Rattle.std.proofs.lemmas.Bool.Decides.{Decides-int_eq, nat_tests}
 pub use Rattle.std.proofs.lemmas.Grind.{common_steps}
-pub use Rattle.std.proofs.lemmas.List.{get_or-take, get_or_append_left, length-map, map-id, map-set, nil_from_length, take_at}
+pub use Rattle.std.proofs.lemmas.List.{take_all, get_or-take, get_or_append_left, length-map, map-id, map-set, nil_from_length, take_at}
 pub use Rattle.std.proofs.lemmas.Option.{slice_get-get_or, slice_get-map, slice_get_within}
 pub use Rattle.std.proofs.lemmas.Simd.{map-map}
 pub use Rattle.std.proofs.lemmas.List.Sums.{sum_by-cons}

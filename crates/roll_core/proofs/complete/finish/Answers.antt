@@ -2,7 +2,7 @@ use Rattle.roll_core.proofs.Words.{Ok, subst, Goes, AreKept, Complete, complete,
 use Rattle.roll_core.proofs.Words.{left_frame, left_table, lost_columns, may_not_complete, Stored}
 use Rattle.roll_core.specs.declared.store.StoredTable.{StoredTable}
 use Rattle.roll_core.proofs.Leaving.{finish_refused, finishes}
-use Rattle.roll_core.proofs.Tidying.{same_parts}
+use Rattle.roll_core.proofs.Stepped.{same_parts}
 use Rattle.roll_core.proofs.complete.finish.Goals as goal
 
 pub returns-in-Some-clause-goes : goal.returns-in-Some-clause-goes

@@ -1,6 +1,6 @@
 use Rattle.roll_core.proofs.Words.{◌≡◌, Ok, sym, subst, Goes, AreKept, Complete, complete, meaning, tidied_parts, ◌∙◌, ap, map, refl, List, parts, seen, tidied_table, Stored}
 use Rattle.roll_core.specs.declared.store.StoredTable.{StoredTable}
-use Rattle.roll_core.proofs.Tidying.{same_parts, tidies}
+use Rattle.roll_core.proofs.Stepped.{same_parts, tidies}
 use Rattle.roll_core.proofs.complete.tidied.Goals as goal
 
 pub returns : goal.returns

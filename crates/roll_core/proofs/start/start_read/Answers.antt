@@ -1,7 +1,7 @@
 use Rattle.roll_core.proofs.Words.{sym, Option, Former, Goes, AreKept, ◌≡◌, Err, List, Ok, map, refl, subst, start_read, Answers, meant, parts, seen, startable}
 use Rattle.roll_core.specs.declared.store.StoredTable.{StoredTable}
 use Rattle.roll_core.proofs.Starting.{start_refused, startable_ok, starts, stops}
-use Rattle.roll_core.proofs.Tidying.{same_parts}
+use Rattle.roll_core.proofs.Stepped.{same_parts}
 use Rattle.roll_core.proofs.Words.reply_of
 use Rattle.roll_core.proofs.start.start_read.Goals as goal
 

@@ -1,8 +1,8 @@
-use Rattle.roll_core.proofs.Words.{rules, ◌∙◌, ℕ, Ok, ap, map, refl, sym, slice_index_or, accepted, meant, seen}
+use Rattle.roll_core.proofs.Words.{rules, ◌∙◌, Ok, ap, map, refl, slice_index_or, accepted, meant, seen}
 use Rattle.roll_core.proofs.Words.sites
 use Rattle.roll_core.proofs.Words.statement
 use Rattle.roll_core.proofs.Reached.{rows_show}
-use Rattle.roll_core.proofs.Settled.{Meeting, Settled, count_is, refused_comes, settled_with, writing_on}
+use Rattle.roll_core.proofs.Settled.{Settled, count_is, refused_comes, settled_with, writing_at}
 use Rattle.roll_core.proofs.Tables.{read_at, site_there}
 use Rattle.roll_core.proofs.writing.written.Goals as goal
 
@@ -26,32 +26,24 @@ returns-in_err-made-clause-answers c =
     let frame = c.args.frame.now in
     let tables = map seen c.args.tables.now in
     let site = sites.site_of c.args.site in
-    let at = c.place_of-at.result in
-    let d = c.index-tables-at.result in
-    let table = slice_index_or c.args.tables.now at d in
-    let read = read_at c.args.tables.now at (sites.number_of site.here) d table c.place_of-at.ensures.within c.place_of-at.ensures.here refl in
-    let meeting : Meeting frame tables at table c.args.job.now site = record { runs = c.requires.runs; read = read; said = c.requires.statement; settled = c.requires.job } in
-    let count = (count_is frame c.args.tables.now c.row_count-count.result c.requires.runs.stands c.row_count-count.ensures).0 in
-    let writing = writing_on c.laws_below.ensures frame tables at table c.args.job.now site c.requires.there meeting in
-    let found = λ (n : ℕ). accepted (seen table) n site c.args.job.now in
-    refused_comes frame tables (statement.written (meant frame tables) site c.args.job.now) (found c.row_count-count.result) c.in_err-made.field-0.0 c.from_residual.result (search rules) c.in_err-made.ensures
-    (λ reply e. writing.refuses reply (ap found (sym count) ∙ e))
+    let count = c.row_count-count.result in
+    let table = slice_index_or c.args.tables.now c.place_of-at.result c.index-tables-at.result in
+    let writing = writing_at c.laws_below.ensures frame c.args.tables.now c.place_of-at.result c.index-tables-at.result c.args.job.now site count c.requires.runs c.requires.there c.requires.statement c.requires.job
+    c.place_of-at.ensures.within c.place_of-at.ensures.here c.row_count-count.ensures in
+    refused_comes frame tables (statement.written (meant frame tables) site c.args.job.now) (accepted (seen table) count site c.args.job.now) c.in_err-made.field-0.0 c.from_residual.result (search rules) c.in_err-made.ensures writing.refuses
 
 settled : (c : goal.After-drop-made-inside-2) → Settled c.args.frame.now (map seen c.args.tables.now) (statement.written (meant c.args.frame.now (map seen c.args.tables.now)) (sites.site_of c.args.site) c.args.job.now) c.in_ok-put_at.field-0 (map seen c.put_at.new.tables)
 settled c =
     let frame = c.args.frame.now in
     let tables = map seen c.args.tables.now in
     let site = sites.site_of c.args.site in
-    let at = c.place_of-at.result in
     let d = c.index-tables-at.result in
-    let table = slice_index_or c.args.tables.now at d in
-    let read = read_at c.args.tables.now at (sites.number_of site.here) d table c.place_of-at.ensures.within c.place_of-at.ensures.here refl in
-    let meeting : Meeting frame tables at table c.args.job.now site = record { runs = c.requires.runs; read = read; said = c.requires.statement; settled = c.requires.job } in
-    let count = (count_is frame c.args.tables.now c.row_count-count.result c.requires.runs.stands c.row_count-count.ensures).0 in
-    let writing = writing_on c.laws_below.ensures frame tables at table c.args.job.now site c.requires.there meeting in
+    let table = slice_index_or c.args.tables.now c.place_of-at.result d in
+    let writing = writing_at c.laws_below.ensures frame c.args.tables.now c.place_of-at.result d c.args.job.now site c.row_count-count.result c.requires.runs c.requires.there c.requires.statement c.requires.job
+    c.place_of-at.ensures.within c.place_of-at.ensures.here c.row_count-count.ensures in
     let all = c.as_slice.result.now in
-    let done = writing.settles all (ap (λ n. accepted (seen table) n site c.args.job.now) (sym count) ∙ c.in_ok-made.ensures ∙ ap Ok (search rules)) in
-    settled_with frame c.args.tables.now at d table (statement.written (meant frame tables) site c.args.job.now) c.in_ok-put_at.field-0 (statement.written_reply site c.args.job.now all) all (map seen c.put_at.new.tables) c.place_of-at.ensures.within refl c.in_ok-put_at.ensures.reply c.in_ok-put_at.ensures.ok done
+    let done = writing.settles all (c.in_ok-made.ensures ∙ ap Ok (search rules)) in
+    settled_with frame c.args.tables.now c.place_of-at.result d table (statement.written (meant frame tables) site c.args.job.now) c.in_ok-put_at.field-0 (statement.written_reply site c.args.job.now all) all (map seen c.put_at.new.tables) c.place_of-at.ensures.within refl c.in_ok-put_at.ensures.reply c.in_ok-put_at.ensures.ok done
 
 pub returns-clause-answers : goal.returns-clause-answers
 returns-clause-answers c = (settled c).comes
