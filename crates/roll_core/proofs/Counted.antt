@@ -1,5 +1,5 @@
 -- How many rows changes leave.
-use Rattle.roll_core.proofs.Words.{arith, ◌≡◌, ◌≤◌, ◌∙◌, ℕ, suc, ◌+◌, ◌-◌, ℤ, List, [], ◌∷◌, Bool, true, false, ◌||◌, Some, None, Result, Ok, cond, is_some, nat_lt, length, map, filter, ap, refl, sym}
+use Rattle.roll_core.proofs.Words.{arith, ◌≡◌, ◌≤◌, ◌∙◌, suc, ◌+◌, ◌-◌, ℤ, List, [], ◌∷◌, Bool, true, false, ◌||◌, Some, None, Result, Ok, cond, is_some, nat_lt, length, map, filter, ap, refl, sym}
 use Rattle.roll_core.proofs.Words.{subst, int_cmp, int_eq, int_cmp_total, int_eq_equiv, Each, eq_by_cmp, nat_tests, and_then_ok, ok_same, Value, least, Cause, Change, Put, Remove, Kept, has_key}
 use Rattle.roll_core.proofs.Words.{is_taken, key_cause, keys_of, times, taken_key, put_each, rows_put, Table, Rows, Form, put_all, put_stored, stored_change}
 use Rattle.roll_core.proofs.Words.finite
@@ -102,15 +102,11 @@ same_count form before (row ∷ new) rows h =
     let one : finite.len after ≡ finite.len rows = finite.len-insert int_cmp_total rows row.key _ ∙ ap (λ b. cond b (finite.len rows) (finite.len rows + 1)) h.0 in
     same_count form before new after (still_there rows row.key _ new h.1) ∙ one
 
-less_or_same : (b : Bool) (n : ℕ) → cond b (n - 1) n ≤ n
-less_or_same true n = omega arith
-less_or_same false n = omega arith
-
 -- Rows that are removed leave no more.
 pub removed_count : (form : Form) (before : Rows) (gone : List Kept) (rows : Rows) → finite.len (put_all (map (stored_change form before) (map (λ row. Remove row.key) gone)) rows) ≤ finite.len rows
 removed_count form before [] rows = omega arith
 removed_count form before (row ∷ gone) rows =
     let after = finite.remove rows row.key in
-    let one : finite.len after ≤ finite.len rows = subst (λ n. n ≤ finite.len rows) (sym (finite.len-remove int_cmp_total rows row.key)) (less_or_same (finite.contains_key rows row.key) (finite.len rows)) in
+    let one : finite.len after ≤ finite.len rows = subst (λ n. n ≤ finite.len rows) (sym (finite.len-remove int_cmp_total rows row.key)) (elim (finite.contains_key rows row.key) as (λ b. cond b (finite.len rows - 1) (finite.len rows) ≤ finite.len rows) [ true ↦ omega arith | false ↦ omega arith ]) in
     let rest = removed_count form before gone after in
     omega (arith, one, rest)

@@ -1,28 +1,23 @@
 -- The rows that a job puts can be stored in the form of their table.
-use Rattle.roll_core.proofs.Words.{◌≡◌, ◌∙◌, ℕ, ℤ, List, [], ◌∷◌, Bool, true, false, Option, Some, None, is_some, cond, int_cmp, Ordering, Less, Equal, Greater, map, ap, refl, sym, subst, option_map}
-use Rattle.roll_core.proofs.Words.{option_and_then, T, int_eq_equiv, is_sorted, below_all, Each, eq_by_cmp, is_eq, is_lt, some_same, Value, Table, table_numbered, Halves, Kept, Beside, number_of}
-use Rattle.roll_core.proofs.Words.{shape_of, Rows, Calm, State, HalvesAgree, PairStands, SiteRow, TableStands, may_miss_beside, new_table_by, table_by, HalfStands, NewStands, Found, Shared, beside_on}
-use Rattle.roll_core.proofs.Words.{lens_between, newer_schema, shared, site_of, table_on, New, Old, Side, FilledBefore, Pair, Form, Own, Paired, Left, Trimmed, FormSuits, LeftBy, IsStoredRow}
-use Rattle.roll_core.proofs.Words.{StoredRow, kept, lost_columns_by, pair_over}
+use Rattle.roll_core.proofs.Words.{◌≡◌, ◌∙◌, ℕ, ℤ, List, [], ◌∷◌, Bool, true, false, Option, Some, None, is_some, cond, int_cmp, map, ap, refl, sym, subst, option_map, option_and_then, T}
+use Rattle.roll_core.proofs.Words.{int_eq_equiv, is_sorted, below_all, Each, eq_by_cmp, is_eq, is_lt, some_same, Value, Table, table_numbered, Halves, Kept, Beside, number_of, shape_of, Rows, Calm}
+use Rattle.roll_core.proofs.Words.{State, HalvesAgree, PairStands, SiteRow, TableStands, may_miss_beside, new_table_by, table_by, HalfStands, NewStands, Found, Shared, beside_on, lens_between}
+use Rattle.roll_core.proofs.Words.{newer_schema, shared, site_of, table_on, New, Old, Side, FilledBefore, Pair, Form, Own, Paired, Left, Trimmed, FormSuits, LeftBy, IsStoredRow, StoredRow, kept}
+use Rattle.roll_core.proofs.Words.{lost_columns_by, pair_over}
 use Rattle.roll_core.proofs.Words.finite
 use Rattle.std.specs.FinMap.{find}
 use Rattle.roll_core.proofs.Made.{HasNew}
 use Rattle.roll_core.proofs.Runs.{no_lens, shared_of}
-use Rattle.roll_core.proofs.Stepped.{split}
+use Rattle.roll_core.proofs.Stepped.{is_less, split}
 use Rattle.roll_core.proofs.Storing.{AloneFits, FormStands, Storable, Together, lost_over}
 
 -- ---- what is stored under a key
-
-less_differs : (o : Ordering) → T (is_lt o) → is_eq o ≡ false
-less_differs Less h = refl
-less_differs Equal h = absurd h
-less_differs Greater h = absurd h
 
 behind_found : (first : StoredRow) (all rows : List StoredRow) → T (below_all int_cmp first.0 rows) → Each (λ row. find int_cmp row.0 all ≡ Some row.1) rows → Each (λ row. find int_cmp row.0 (first ∷ all) ≡ Some row.1) rows
 behind_found first all [] b h = tt
 behind_found first all (row ∷ rows) b h =
     let parts = split (is_lt (int_cmp first.0 row.0)) (below_all int_cmp first.0 rows) b in
-    let differs : eq_by_cmp int_cmp row.0 first.0 ≡ false = int_eq_equiv.symm row.0 first.0 ∙ less_differs (int_cmp first.0 row.0) parts.0 in
+    let differs : eq_by_cmp int_cmp row.0 first.0 ≡ false = int_eq_equiv.symm row.0 first.0 ∙ ap is_eq (is_less (int_cmp first.0 row.0) parts.0) in
     (ap (λ test. cond test (Some first.1) (find int_cmp row.0 all)) differs ∙ h.0, behind_found first all rows parts.1 h.1)
 
 pub sorted_found : (rows : List StoredRow) → T (is_sorted int_cmp rows) → Each (λ row. find int_cmp row.0 rows ≡ Some row.1) rows

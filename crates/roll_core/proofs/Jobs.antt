@@ -1,9 +1,9 @@
 -- What a job changes is stored so that it is meant, and what such changes leave of the tables.
-use Rattle.roll_core.proofs.Words.{slice_get_within, arith, ◌≡◌, ◌∙◌, ◌<◌, ◌+◌, ℕ, zero, suc, ℤ, List, [], ◌∷◌, Bool, true, false, if◌then◌else◌, Option, Some, None, Ok, length, map, ap, refl, sym}
-use Rattle.roll_core.proofs.Words.{subst, option_map, slice_get, slice_index_or, Each, nat_tests, get_or-take, some_same, Value, Null, Cell, Carry, Make, Still, is_carried_from, Table, Change, Put}
-use Rattle.roll_core.proofs.Words.{Remove, Job, Kept, changes, number_of, shape_of, Calm, State, RowsOnSites, RowsStandBy, BesideStands, ChangeAgrees, ChangeStands, HalvesAgree, JobStands, OfPut}
-use Rattle.roll_core.proofs.Words.{PairStands, SiteRow, SiteStands, TableStands, IsState, RowsStand, Found, Shared, beside_on, rows_of, shared, site_of, table_on, New, Old, Side, Rows, Pair, IsPair}
-use Rattle.roll_core.proofs.Words.{PairsAreLong, is_marked, new_half, new_view, old_view, places, Form, Own, Paired, Left, Trimmed, FormSuits, StoredRow, kept, Below, StoredTable, OwnTable, with_rows}
+use Rattle.roll_core.proofs.Words.{slice_get_within, arith, ◌≡◌, ◌∙◌, ◌<◌, ◌+◌, ℕ, zero, suc, ℤ, List, [], ◌∷◌, true, false, if◌then◌else◌, Option, Some, None, Ok, length, map, ap, refl, sym, subst}
+use Rattle.roll_core.proofs.Words.{option_map, slice_get, slice_index_or, Each, nat_tests, get_or-take, some_same, Value, Null, Cell, Carry, Make, Still, is_carried_from, Table, Change, Put, Remove}
+use Rattle.roll_core.proofs.Words.{Job, Kept, changes, number_of, shape_of, Calm, State, RowsOnSites, RowsStandBy, BesideStands, ChangeAgrees, ChangeStands, HalvesAgree, JobStands, OfPut, PairStands}
+use Rattle.roll_core.proofs.Words.{SiteRow, SiteStands, TableStands, IsState, RowsStand, Found, Shared, beside_on, rows_of, shared, site_of, table_on, New, Old, Side, Rows, Pair, IsPair, PairsAreLong}
+use Rattle.roll_core.proofs.Words.{is_marked, new_half, new_view, old_view, places, Form, Own, Paired, Left, Trimmed, FormSuits, StoredRow, kept, Below, StoredTable, OwnTable, with_rows}
 use Rattle.roll_core.proofs.Words.{after_changes, meant, slice_set, changed, SameForms, RowsStored, Runs, seen, rows_meant, table_meant, is_some, every, has_key, key_cause, new_keys_cause, new_row}
 use Rattle.roll_core.proofs.Words.{rows_put, Site, lost_columns_of, IsStatement, IsStoredRow, lost_columns_by}
 use Rattle.roll_core.proofs.Words.finite
@@ -36,13 +36,9 @@ carried_at next (Carry from ∷ cells) row (suc i) j e = carried_at next cells r
 carried_at next (Make up ∷ cells) row (suc i) j e = carried_at (next + 1) cells row i j e
 carried_at next (Still x ∷ cells) row (suc i) j e = carried_at (next + 1) cells row i j e
 
-half_shown : (marked : Bool) (view new : List Value) → (if marked then None else Some view) ≡ Some new → view ≡ new
-half_shown true view new e = cc
-half_shown false view new e = some_same view new e
-
 pair_agrees : PairsAreLong → (pair : Pair) → IsPair pair → (row : List Value) → HalvesAgree pair.lens (record { old = Some (old_view pair row); new = new_half pair row })
 pair_agrees long pair p row old new i j o n c =
-    let shown = half_shown (is_marked pair row) (new_view pair row) new n in
+    let shown = elim (is_marked pair row) as (λ b. (if b then None else Some (new_view pair row)) ≡ Some new → new_view pair row ≡ new) [ true ↦ λ e. cc | false ↦ λ e. some_same (new_view pair row) new e ] n in
     let was = some_same (old_view pair row) old o in
     let back = cell_carried (slice_get pair.lens.old_cols j) i (sym (p.lens.both_ways i j) ∙ c) in
     let inside = slice_get_within pair.lens.old_cols j (Carry i) back in

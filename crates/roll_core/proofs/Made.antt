@@ -34,17 +34,13 @@ pub record Remade (site : Site) (key : ℤ) (lost : ℕ) (row : Kept) : Type 0 w
   pub is_lost : row.lost ≡ lost
   pub has_new : HasNew site.there row.halves
 
-halves_have : (side : Side) (values made : List Value) → is_some (halves_on side values (Some made)).new ≡ true
-halves_have Old values made = refl
-halves_have New values made = refl
-
 other_there : (side : Side) (site : Site) (there : Option Beside) → site.there ≡ there → (values : List Value) (before made : Option (List Value)) → other_half site values before ≡ Ok made → HasNew there (halves_on side values made)
 other_there side site None t values before made h = tt
 other_there side site (Some beside) t values before made h =
     let of = λ (o : Option Beside). option_map_or (λ beside. and_then (half_beside site.side (shape_of site.here) beside values before) (λ made. Ok (Some made))) o (Ok None) in
     let is : and_then (half_beside site.side (shape_of site.here) beside values before) (λ made. Ok (Some made)) ≡ Ok made = ap of (sym t) ∙ h in
     let step = and_then_ok (half_beside site.side (shape_of site.here) beside values before) (λ made. Ok (Some made)) made is in
-    subst (λ (m : Option (List Value)). is_some (halves_on side values m).new ≡ true) (ok_same (Some step.0) made step.2) (halves_have side values step.0)
+    subst (λ (m : Option (List Value)). is_some (halves_on side values m).new ≡ true) (ok_same (Some step.0) made step.2) (elim side as (λ side. is_some (halves_on side values (Some step.0)).new ≡ true) [ Old ↦ refl | New ↦ refl ])
 
 remade_is : (site : Site) (key : ℤ) (lost : ℕ) (before : Option (List Value)) (values : List Value) (row : Kept) → remade site key lost before values ≡ Ok row → Remade site key lost row
 remade_is site key lost before values row h =

@@ -22,15 +22,16 @@ rest_below row (next ∷ rows) h =
     let there = rest_below next rows h.1 in
     ((h.0, below_more row.key next.key rows h.0 there.0), h.1)
 
+none_taken : {X : Type 0} (xs : List X) → take zero xs ≡ []
+none_taken [] = refl
+none_taken (x ∷ xs) = refl
+
 key_absent : (p : Kept → Bool) (key : ℤ) (n : ℕ) (rows : List Kept) → IsBelow key rows → list_any (int_eq key) (take n (map (λ row. row.key) (filter p rows))) ≡ false
-key_absent p key zero [] b = refl
+key_absent p key zero rows b = ap (list_any (int_eq key)) (none_taken (map (λ row. row.key) (filter p rows)))
 key_absent p key (suc n) [] b = refl
-key_absent p key n (row ∷ rows) b = by_test (p row) n (key_absent p key n rows b.1) (λ m. key_absent p key m rows b.1)
-  where
-    by_test : (here : Bool) (n : ℕ) → list_any (int_eq key) (take n (map (λ row. row.key) (filter p rows))) ≡ false → ((m : ℕ) → list_any (int_eq key) (take m (map (λ row. row.key) (filter p rows))) ≡ false) → list_any (int_eq key) (take n (map (λ row. row.key) (if here then row ∷ filter p rows else filter p rows))) ≡ false
-    by_test true zero there each = refl
-    by_test true (suc n) there each = ap (λ c. is_eq c || list_any (int_eq key) (take n (map (λ row. row.key) (filter p rows)))) b.0 ∙ each n
-    by_test false n there each = there
+key_absent p key (suc n) (row ∷ rows) b =
+    elim (p row) as (λ here. list_any (int_eq key) (take (suc n) (map {A = Kept} (λ row. row.key) (if here then row ∷ filter p rows else filter p rows))) ≡ false)
+    [ true ↦ ap (λ c. is_eq c || list_any (int_eq key) (take n (map (λ row. row.key) (filter p rows)))) b.0 ∙ key_absent p key n rows b.1 | false ↦ key_absent p key (suc n) rows b.1 ]
 
 -- rows behind a key aren't of this key
 skipped : (q : Kept → Bool) (key : ℤ) (rows : List Kept) → IsBelow key rows → filter (λ row. int_eq row.key key || q row) rows ≡ filter q rows
@@ -38,10 +39,6 @@ skipped q key [] b = refl
 skipped q key (row ∷ rows) b =
     let rest = filter (λ row. int_eq row.key key || q row) rows in
     ap (λ a. if a || q row then row ∷ rest else rest) (int_eq_equiv.symm row.key key ∙ ap is_eq b.0) ∙ ap (λ rest. if q row then row ∷ rest else rest) (skipped q key rows b.1)
-
-none_taken : {X : Type 0} (xs : List X) → take zero xs ≡ []
-none_taken [] = refl
-none_taken (x ∷ xs) = refl
 
 none_left : (rows : List Kept) → filter (λ row. false) rows ≡ []
 none_left [] = refl
@@ -53,20 +50,14 @@ first_rows p zero rows h = ap (λ keys. rows_at keys rows) (none_taken (map (λ 
 first_rows p (suc n) [] h = refl
 first_rows p (suc n) (row ∷ rows) h =
     let rest = rest_below row rows h in
-    by_test (p row) (key_absent p row.key (suc n) rows rest.0) (first_rows p n rows rest.1) (first_rows p (suc n) rows rest.1) rest.0
-  where
-    keys : List ℤ
-    keys = map (λ row. row.key) (filter p rows)
-
-    left : List Kept
-    left = filter (λ other. int_eq other.key row.key || list_any (int_eq other.key) (take n keys)) rows
-
-    by_test : (b : Bool) → list_any (int_eq row.key) (take (suc n) keys) ≡ false → rows_at (take n keys) rows ≡ take n (filter p rows) → rows_at (take (suc n) keys) rows ≡ take (suc n) (filter p rows) → IsBelow row.key rows
-        → rows_at (take (suc n) (map (λ row. row.key) (if b then row ∷ filter p rows else filter p rows))) (row ∷ rows) ≡ take (suc n) (if b then row ∷ filter p rows else filter p rows)
-    by_test true absent less same below =
-        ap (λ b. if b || list_any (int_eq row.key) (take n keys) then row ∷ left else left) (int_eq_equiv.refl row.key)
-        ∙ ap (λ left. row ∷ left) (skipped (λ other. list_any (int_eq other.key) (take n keys)) row.key rows below ∙ less)
-    by_test false absent less same below = ap (λ b. if b then row ∷ rows_at (take (suc n) keys) rows else rows_at (take (suc n) keys) rows) absent ∙ same
+    let keys = map (λ row. row.key) (filter p rows) in
+    let left = filter (λ other. int_eq other.key row.key || list_any (int_eq other.key) (take n keys)) rows in
+    let same = rows_at (take (suc n) keys) rows in
+    elim (p row) as (λ b. rows_at (take (suc n) (map {A = Kept} (λ row. row.key) (if b then row ∷ filter p rows else filter p rows))) (row ∷ rows) ≡ take (suc n) (if b then row ∷ filter p rows else filter p rows)) [
+      | true ↦ ap (λ b. if b || list_any (int_eq row.key) (take n keys) then row ∷ left else left) (int_eq_equiv.refl row.key)
+          ∙ ap (λ left. row ∷ left) (skipped (λ other. list_any (int_eq other.key) (take n keys)) row.key rows rest.0 ∙ first_rows p n rows rest.1)
+      | false ↦ ap (λ b. if b then row ∷ same else same) (key_absent p row.key (suc n) rows rest.0) ∙ first_rows p (suc n) rows rest.1
+    ]
 
 -- ---- whether there is any
 

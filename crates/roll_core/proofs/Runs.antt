@@ -1,7 +1,7 @@
 -- What both versions have of a table, and that what an engine stores is what its steps are promised.
 use Rattle.roll_core.proofs.Words.{lens_between, newer_schema, Both, State, form_in, over_pair, Paired, Former, shared, ◌≡◌, ◌∙◌, ℕ, List, Option, Some, None, true, ap, refl, sym, subst, option_map}
 use Rattle.roll_core.proofs.Words.{option_and_then, some_same, Schema, Shape, Lens, Fate, IsSchema, Joins, IsWellFormed, fits, Table, table_numbered, shape_of, Shared, lens_among, IsPair, pair_over}
-use Rattle.roll_core.proofs.Words.{meaning, Bool, false, ◌==◌, if◌then◌else◌, nat_eq, list_any, Mode, Calm, IsState, ModeStands, NewerStands, Pair, Form, Own, Left, Trimmed, FormSuits, LeftBy, Runs}
+use Rattle.roll_core.proofs.Words.{meaning, false, ◌==◌, if◌then◌else◌, nat_eq, list_any, Mode, Calm, IsState, ModeStands, NewerStands, Pair, Form, Own, Left, Trimmed, FormSuits, LeftBy, Runs}
 use Rattle.roll_core.proofs.Words.{numbers_in, FormerStands, HasFormer, IsStored, IsStoredTable, Stored, StoredTable, both_again, calm_form, former_pair}
 use Rattle.roll_core.proofs.Tables.{all_at, each_of, each_place, numbers_of-meant, own_number}
 
@@ -122,12 +122,13 @@ former_by frame None m is h number pair e = cc
 former_by frame (Some former) m is h number pair e = left_by frame former m is h.1 number pair e
 
 calm_suits : (frame : State) (former : Option Former) → frame.mode ≡ Calm → IsSchema frame.schema → HasFormer frame former → (number : ℕ) → FormSuits frame number (calm_form former frame number)
-calm_suits frame former m is h number = by_left (frame.left == 2) (frame.left == 1)
-  where
-    by_left : (two one : Bool) → FormSuits frame number (if two then over_pair Left (former_pair former frame number) else if one then over_pair Trimmed (former_pair former frame number) else Own)
-    by_left true one = over_suits Left frame number (former_pair former frame number) m (λ pair e. former_by frame former m is h number pair e)
-    by_left false true = over_suits Trimmed frame number (former_pair former frame number) m (λ pair e. former_by frame former m is h number pair e)
-    by_left false false = m
+calm_suits frame former m is h number =
+    let over = former_pair former frame number in
+    let left = λ (pair : Shared) (e : over ≡ Some pair). former_by frame former m is h number pair e in
+    elim (frame.left == 2) as (λ two. FormSuits frame number (if two then over_pair Left over else if frame.left == 1 then over_pair Trimmed over else Own)) [
+      | true ↦ over_suits Left frame number over m left
+      | false ↦ elim (frame.left == 1) as (λ one. FormSuits frame number (if one then over_pair Trimmed over else Own)) [ true ↦ over_suits Trimmed frame number over m left | false ↦ m ]
+    ]
 
 -- ---- each table
 
