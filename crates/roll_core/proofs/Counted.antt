@@ -19,19 +19,11 @@ rows_put-all (row ∷ rows) = ap (λ rest. row ∷ rest) (rows_put-all rows)
 
 -- ---- new keys
 
-least_none : (keys : List ℤ) → least keys ≡ None → keys ≡ []
-least_none [] e = refl
-least_none (key ∷ keys) e = cc
-
 none_pass : (q : ℤ → Bool) (rows : List Kept) → filter q (map (λ row. row.key) rows) ≡ [] → Each (λ row. q row.key ≡ false) rows
 none_pass q [] e = tt
 none_pass q (row ∷ rows) e =
     elim (q row.key) as (λ b. q row.key ≡ b → cond b (row.key ∷ filter q (map (λ row. row.key) rows)) (filter q (map (λ row. row.key) rows)) ≡ [] → Each (λ row. q row.key ≡ false) (row ∷ rows))
     [ true ↦ λ k e. cc | false ↦ λ k e. (k, none_pass q rows e) ] refl e
-
-neither : (a b : Bool) → (a || b) ≡ false → (a ≡ false) × (b ≡ false)
-neither true b h = cc
-neither false b h = (refl, h)
 
 abbrev pub Distinct : List Kept → Type 0
 Distinct [] = Unit {0}
@@ -67,8 +59,8 @@ pub record Fresh (older new : List Kept) : Type 0 where
 
 pub fresh : (table : Table) (older new : List Kept) → key_cause table older new ≡ None → Fresh older new
 fresh table older new h =
-    let none = none_pass (is_taken older new) new (least_none (filter (is_taken older new) (keys_of new)) (none_mapped (taken_key table) (least (filter (is_taken older new) (keys_of new))) h)) in
-    let either = λ (row : Kept). neither (has_key row.key older) (nat_lt 1 (times row.key new)) in
+    let none = none_pass (is_taken older new) new (elim (filter (is_taken older new) (keys_of new)) as (λ keys. least keys ≡ None → keys ≡ []) [ [] ↦ λ e. refl | key ∷ keys ↦ λ e. cc ] (none_mapped (taken_key table) (least (filter (is_taken older new) (keys_of new))) h)) in
+    let either = λ (row : Kept). elim (has_key row.key older) as (λ a. (a || nat_lt 1 (times row.key new)) ≡ false → (a ≡ false) × (nat_lt 1 (times row.key new) ≡ false)) [ true ↦ λ h. cc | false ↦ λ h. (refl, h) ] in
     record { apart = each_of (λ row n. (either row n).0) new none; once = distinct new (each_of (λ row n. (either row n).1) new none) }
 
 -- ---- lengths

@@ -63,15 +63,11 @@ older_weigh form rows s = rows_weigh form rows (finite.entries rows) (sorted_fou
 halves_are : (halves : Halves) (old new : Option (List Value)) → halves.old ≡ old → halves.new ≡ new → halves ≡ record { old = old; new = new }
 halves_are halves old new o n = λ i. record { old = o i; new = n i }
 
-none_new : (key : ℤ) (new : Option (List Value)) → HalfStands None key new → new ≡ None
-none_new key None h = refl
-none_new key (Some values) h = absurd h
-
 alone_has : (here : Table) (row : Kept) → HalfStands (Some here) row.key row.halves.old → HalfStands None row.key row.halves.new → AloneFits (shape_of here) row
 alone_has here row o n =
     elim row.halves.old as (λ old. row.halves.old ≡ old → HalfStands (Some here) row.key old → AloneFits (shape_of here) row) [
       | None ↦ λ e h. absurd h
-      | Some values ↦ λ e h. record { values = values; halves = halves_are row.halves (Some values) None e (none_new row.key row.halves.new n); fits = h.0 }
+      | Some values ↦ λ e h. record { values = values; halves = halves_are row.halves (Some values) None e (elim row.halves.new as (λ new. HalfStands None row.key new → new ≡ None) [ None ↦ λ h. refl | Some values ↦ λ h. absurd h ] n); fits = h.0 }
     ] refl o
 
 alone_site : (side : Side) (here : Table) (there : Option Beside) (row : Kept) → side ≡ Old → there ≡ None → HalfStands (table_by side here there) row.key row.halves.old → NewStands (may_miss_beside there) (new_table_by side here there) row.key row.halves.new → AloneFits (shape_of here) row
@@ -135,10 +131,6 @@ both_has s found both is p stands row r =
 
 -- ---- any form
 
--- What the form's pair is to the halves: where both versions have the table, these agree.
-abbrev pub AgreesIn : State → ℕ → Kept → Type 0
-AgreesIn s number row = (both : Shared) → shared s number ≡ Some both → HalvesAgree both.lens row.halves
-
 new_there : (there : Option Beside) (beside : Beside) (halves : Halves) → there ≡ Some beside → HasNew there halves → is_some halves.new ≡ true
 new_there None beside halves e h = cc
 new_there (Some b) beside halves e h = h
@@ -155,7 +147,7 @@ left_fits s found pair f stands row r =
     subst (λ shape. AloneFits shape row) (sym (f.shape found.table old)) (calm_has s found f.calm stands row r)
 
 pub storable : (s : State) (found : Found) → TableStands s found → ((both : Shared) → shared s (number_of found.table) ≡ Some both → PairStands s (number_of found.table) both) → (form : Form) (before : Option (List Value)) (row : Kept) → FormSuits s (number_of found.table) form
-    → SiteRow (λ lost. Unit {0}) (site_of s found) row → HasNew (site_of s found).there row.halves → AgreesIn s (number_of found.table) row → WeighsOver form before row.lost → Storable form before row
+    → SiteRow (λ lost. Unit {0}) (site_of s found) row → HasNew (site_of s found).there row.halves → ((both : Shared) → shared s (number_of found.table) ≡ Some both → HalvesAgree both.lens row.halves) → WeighsOver form before row.lost → Storable form before row
 storable s found stands pairs Own before row f r h a w = let has = calm_has s found f stands row r in (record { values = has.values; halves = has.halves }, w)
 storable s found stands pairs (Paired pair) before row f r h a w =
     let both = f.both in

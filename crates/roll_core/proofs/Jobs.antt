@@ -116,15 +116,11 @@ job_stores law s found is stands form rows suits what side job older sites agree
 pub stored_sites : RowsStandBy → RowsOnSites → (s : State) (found : Found) → IsState s → TableStands s found → (rows : List Kept) → rows_of s (number_of found.table) ≡ rows → Each (SiteRow (λ lost. Unit {0}) (site_of s found)) rows
 stored_sites by law s found is stands rows e = rows_each law s found is stands rows (subst (RowsStand s (number_of found.table)) e (by s (number_of found.table) is).1)
 
-none_there : {X : Type 0} (o : Option X) → is_some o ≡ false → o ≡ None
-none_there None h = refl
-none_there (Some x) h = cc
-
 -- New rows weigh what a row weighs where nothing was.
 fresh_weigh : (form : Form) (rows : Rows) (site : Site) (new : List Kept) → Each (λ row. has_key row.key (map (kept form) (finite.entries rows)) ≡ false) new → Each (OfPut (Placed (λ key lost. WeighsOver form None lost) site)) (map Put new) → Each (OfPut (λ row. Weighs form rows row.key row.lost)) (map Put new)
 fresh_weigh form rows site [] f p = tt
 fresh_weigh form rows site (row ∷ new) f p =
-    let none = none_there (finite.get rows row.key) (has_key-stored form row.key rows ∙ f.0) in
+    let none = elim (finite.get rows row.key) as (λ o. is_some o ≡ false → o ≡ None) [ None ↦ λ h. refl | Some values ↦ λ h. cc ] (has_key-stored form row.key rows ∙ f.0) in
     (subst (λ before. WeighsOver form before row.lost) (sym none) p.0.weighs, fresh_weigh form rows site new f.1 p.1)
 
 pub placed_weigh : (form : Form) (rows : Rows) (site : Site) (all : List Change) → Each (OfPut (Placed (Weighs form rows) site)) all → Each (OfPut (λ row. Weighs form rows row.key row.lost)) all

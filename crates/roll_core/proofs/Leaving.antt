@@ -81,9 +81,6 @@ found lost number = option_map_or (λ lost. lost.1) (find (λ lost. lost.0 == nu
 abbrev entry : ℕ → Option Lens → Option (ℕ × ℕ)
 entry number lens = option_and_then (λ lens. if nat_lt 0 (lost_columns_in lens) then Some (number, lost_columns_in lens) else None) lens
 
-none_is_zero : (n : ℕ) → nat_lt 0 n ≡ false → n ≡ 0
-none_is_zero n h = grind (arith, nat_tests)
-
 here_found : (number : ℕ) (lens : Option Lens) (rest : List (ℕ × ℕ)) (there : Bool) → found rest number ≡ (if there then amount lens else 0) → found (cons_option (entry number lens) rest) number ≡ amount lens
 here_found number None rest true h = h
 here_found number None rest false h = h
@@ -92,7 +89,7 @@ here_found number (Some lens) rest there h = by_test (nat_lt 0 (lost_columns_in 
     by_test : (b : Bool) → nat_lt 0 (lost_columns_in lens) ≡ b → (there : Bool) → found rest number ≡ (if there then lost_columns_in lens else 0) → found (cons_option (if b then Some (number, lost_columns_in lens) else None) rest) number ≡ lost_columns_in lens
     by_test true t there h = let same : (number == number) ≡ true = grind (arith, nat_tests) in rw same refl
     by_test false t true h = h
-    by_test false t false h = h ∙ sym (none_is_zero (lost_columns_in lens) t)
+    by_test false t false h = let zero : lost_columns_in lens ≡ 0 = grind (arith, nat_tests) in h ∙ sym zero
 
 other_found : (own number : ℕ) (lens : Option Lens) (rest : List (ℕ × ℕ)) → (own == number) ≡ false → found (cons_option (entry own lens) rest) number ≡ found rest number
 other_found own number None rest e = refl

@@ -16,12 +16,8 @@ any_meant form key (row ∷ rows) = ap (λ rest. int_eq key row.0 || rest) (any_
 pub has_key-stored : (form : Form) (key : ℤ) (rows : Rows) → is_some (finite.get rows key) ≡ list_any (λ row. int_eq key row.key) (map (kept form) (finite.entries rows))
 has_key-stored form key rows = finite.contains_key-keys rows key ∙ any_meant form key (finite.entries rows)
 
-copied_some : (got : Option (Bor (List Value))) → is_some (option_copied got) ≡ is_some got
-copied_some None = refl
-copied_some (Some values) = refl
-
 pub has_key-meant : (form : Form) (key : ℤ) (rows : Rows) (got : Option (Bor (List Value))) → option_copied got ≡ finite.get rows key → is_some got ≡ list_any (λ row. int_eq key row.key) (map (kept form) (finite.entries rows))
-has_key-meant form key rows got is = sym (copied_some got) ∙ ap is_some is ∙ has_key-stored form key rows
+has_key-meant form key rows got is = elim got as (λ got. is_some got ≡ is_some (option_copied got)) [ None ↦ refl | Some values ↦ refl ] ∙ ap is_some is ∙ has_key-stored form key rows
 
 -- ---- one row put
 

@@ -63,9 +63,6 @@ joined_pair old new fates number both is_old is_new h joined =
 pub active_form : (former : Option Former) (frame : State) (number : ℕ) (name : List ℕ) (schema : Schema) (fates : List (ℕ × Fate)) → frame.mode ≡ Both name schema fates → form_in former frame number ≡ over_pair Paired (shared_in frame.schema schema fates number)
 active_form former frame number name schema fates m = rw m refl
 
-pub active_shared : (frame : State) (number : ℕ) (name : List ℕ) (schema : Schema) (fates : List (ℕ × Fate)) → frame.mode ≡ Both name schema fates → shared frame number ≡ shared_in frame.schema schema fates number
-active_shared frame number name schema fates m = ap (λ mode. shared_of (lens_between mode number) (option_and_then (λ schema. table_numbered schema number) (newer_schema mode)) (table_numbered frame.schema number)) m
-
 -- ---- while both versions stand
 
 -- What holds of a table: both versions have it, and it is stored over its pair.
@@ -94,7 +91,7 @@ both_have stored name schema fates m stands table a t =
     record {
       both = both;
       is = there.1;
-      shares = active_shared frame number name schema fates m ∙ there.1;
+      shares = ap (λ mode. shared_of (lens_between mode number) (option_and_then (λ schema. table_numbered schema number) (newer_schema mode)) (table_numbered frame.schema number)) m ∙ there.1;
       new = parts.1;
       lens = parts.2;
       is_pair = joined_pair frame.schema schema fates number both stands.version.schema_stands newer.version.schema_stands there.1 joined;

@@ -121,10 +121,6 @@ refused_same law frame tables at found table what m all e =
 
 -- ---- the outcome
 
-guarded_next : {T U E : Type 0} (o : Option E) (x : T) (f : T → U) → guarded o (Ok (f x)) ≡ and_then (guarded o (Ok x)) (λ x. Ok (f x))
-guarded_next None x f = refl
-guarded_next (Some fault) x f = refl
-
 written_is : Below → (frame : State) (tables : List StoredTable) (at : ℕ) (found : Found) (table : OwnTable) (what : Job) → Meets frame tables at found table what
     → statement.written (meant frame tables) (site_of frame found) what ≡ and_then (accepted (seen table) (stored_count tables) (site_of frame found) what) (λ all. Ok (statement.changed (meant frame tables) (site_of frame found) what all))
 written_is law frame tables at found table what m =
@@ -135,7 +131,7 @@ written_is law frame tables at found table what m =
     let refused = refused_all (seen table) (stored_count tables) site what in
     ap (λ rows. and_then (of (changes site what rows)) (statement.settled s site what)) (rows_are_read law frame tables at found table what m)
     ∙ elim (changes site what rows) as (λ r. changes site what rows ≡ r → and_then (of r) (statement.settled s site what) ≡ and_then (and_then (of r) (λ all. guarded (refused all) (Ok all))) (λ all. Ok (statement.changed s site what all))) [
-      | Ok all ↦ λ e. ap (λ (o : Option Reply). guarded {T = Done} o (Ok (statement.changed s site what all))) (refused_same law frame tables at found table what m all e) ∙ guarded_next (refused all) all (statement.changed s site what)
+      | Ok all ↦ λ e. ap (λ (o : Option Reply). guarded {T = Done} o (Ok (statement.changed s site what all))) (refused_same law frame tables at found table what m all e) ∙ elim (refused all) as (λ o. guarded {T = Done} o (Ok (statement.changed s site what all)) ≡ and_then (guarded o (Ok all)) (λ all. Ok (statement.changed s site what all))) [ None ↦ refl | Some fault ↦ refl ]
       | Err cause ↦ λ e. refl
     ] refl
 

@@ -1,7 +1,7 @@
 -- START leaves stored rows that mean what the machine leaves.
 use Rattle.roll_core.proofs.Words.{begun_parts, ◌≡◌, ◌∙◌, ℕ, List, [], ◌∷◌, Bool, true, false, Option, Some, None, Result, Ok, Err, inl, inr, map, ap, refl, sym, subst, if◌then◌else◌, AllByRecursion}
 use Rattle.roll_core.proofs.Words.{Each, map-map, option_map_or, option_or, row_fits, and_then_ok, either_none, and_then, Value, Lens, Refusal, Migration, Plan, IsSchema, Joins, has_mark}
-use Rattle.roll_core.proofs.Words.{table_numbered, Kept, Stop, Because, NoMemory, Answers, guarded, without, shape_of, begun_row, Mode, Calm, Both, State, CommandOutcome, Done, Started, active}
+use Rattle.roll_core.proofs.Words.{table_numbered, Kept, Stop, Because, NoMemory, Answers, guarded, without, shape_of, begun_row, Calm, Both, State, CommandOutcome, Done, Started, active}
 use Rattle.roll_core.proofs.Words.{machine_begun, may_not_start, planned, start_planned, start_read, started, steps_left, taken, too_heavy, unrun, HalfStands, IsState, RowsStand, StepsStand}
 use Rattle.roll_core.proofs.Words.{TablesStand, may_lose, Shared, lens_among, table_on, Old, Pair, BeginningLeaves, BegunRowsHold, IsPair, IsBegunRow, IsPairedRow, new_half, new_view, Form, Own}
 use Rattle.roll_core.proofs.Words.{Paired, Former, meant, AreKept, AreRun, Goes, begun_form, begun_frame, begun_table, startable, stepped_row, HasFormer, IsStoredRow, IsStoredTable, StoredRow, Stored}
@@ -110,15 +110,11 @@ tables_stored law frame name former all plan new b tables h = each_mapped (begun
 
 -- ---- START
 
-none_active : (mode : Mode) → active mode ≡ None → mode ≡ Calm
-none_active Calm h = refl
-none_active (Both name schema fates) h = cc
-
 is_calm : (s : State) (m : Migration) → may_not_start s m ≡ None → s.mode ≡ Calm
 is_calm s m h =
     let ops = either_none (unrun 0 m.operations) (option_or (steps_left s) (option_or (active s.mode) (taken s m.name))) h in
     let steps = either_none (steps_left s) (option_or (active s.mode) (taken s m.name)) ops.1 in
-    none_active s.mode (either_none (active s.mode) (taken s m.name) steps.1).0
+    elim s.mode as (λ mode. active mode ≡ None → mode ≡ Calm) [ Calm ↦ λ h. refl | Both name schema fates ↦ λ h. cc ] (either_none (active s.mode) (taken s m.name) steps.1).0
 
 -- What START leaves.
 pub record IsStarted (frame : State) (former : Option Former) (tables : List StoredTable) (name : List ℕ) (plan : Plan) : Type 0 where
@@ -156,9 +152,6 @@ startable_ok s m plan h =
 abbrev began : State → Migration → Plan → Done
 began s m plan = record { reply = reply_of.Start m.name; after = started s m.name plan; wrote = Started m }
 
-start_is : (s : State) (m : Migration) (plan : Plan) → startable s m ≡ Ok plan → start_read s m ≡ Ok (began s m plan)
-start_is s m plan h = let parts = startable_ok s m plan h in rw (parts.0, parts.1, parts.2) refl
-
 pub start_refused : (s : State) (m : Migration) (refusal : Refusal) → startable s m ≡ Err refusal → start_read s m ≡ Err refusal
 start_refused s m refusal h =
     elim (may_not_start s m) as (λ may. guarded may (and_then (planned s m) (λ plan. without (too_heavy s plan) plan)) ≡ Err refusal → guarded may (and_then (planned s m) (start_planned s m)) ≡ Err refusal)
@@ -177,4 +170,4 @@ starts law frame former tables m plan run by =
     let s = meant frame tables in
     let may = startable_ok s m plan by in
     let kept : AreKept (record { frame = frame; former = run.0; tables = tables }) = record { once = run.1.once; former = run.1.former; tables = run.1.tables } in
-    ((began s m plan, start_is s m plan by, refl, (is_started law frame run.0 tables m plan run.1.stands kept may.0 may.1).means), λ k. (is_started law frame former tables m plan run.1.stands k may.0 may.1).kept)
+    ((began s m plan, rw (may.0, may.1, may.2) refl, refl, (is_started law frame run.0 tables m plan run.1.stands kept may.0 may.1).means), λ k. (is_started law frame former tables m plan run.1.stands k may.0 may.1).kept)

@@ -1,8 +1,8 @@
 -- Rows that a step stores anew stand in their order, and what the second and the third step of completing leave.
 use Rattle.roll_core.proofs.Words.{take_all, le_of_eq, nil_from_length, arith, ◌≡◌, ◌∙◌, ◌<◌, ℕ, zero, suc, ℤ, List, [], ◌∷◌, Bool, true, false, ◌&&◌, Some, None, int_cmp, Ordering, Less, Equal}
 use Rattle.roll_core.proofs.Words.{Greater, ap, refl, sym, subst, length, map, take, T, slice_get, int_cmp_total, is_sorted, put, below_all, by_order, is_lt, ordering_reverse, some_same, Each, Kept}
-use Rattle.roll_core.proofs.Words.{Value, Rows, Form, IsStoredRow, kept, stepped_row, stepped_values, StoredRow, meaning, ◌==◌, Option, Ok, inl, inr, ◌⊎◌, if◌then◌else◌, map-id, map-map, Mode, Calm}
-use Rattle.roll_core.proofs.Words.{Both, State, Complete, complete, stepped, table_without_loss, tidied, without_loss, ModeStands, StepsStand, Shared, Pair, IsPair, Own, Left, Trimmed, Former, meant}
+use Rattle.roll_core.proofs.Words.{Value, Rows, Form, IsStoredRow, kept, stepped_row, stepped_values, StoredRow, meaning, ◌==◌, Option, Ok, inl, inr, ◌⊎◌, if◌then◌else◌, map-id, map-map, Calm, Both}
+use Rattle.roll_core.proofs.Words.{State, Complete, complete, stepped, table_without_loss, tidied, without_loss, ModeStands, StepsStand, Shared, Pair, IsPair, Own, Left, Trimmed, Former, meant}
 use Rattle.roll_core.proofs.Words.{AreKept, Goes, tidied_form, tidied_number, tidied_parts, tidied_table, HasFormer, IsStored, IsStoredTable, Stored, StoredTable, form_in, former_pair}
 use Rattle.roll_core.proofs.Words.{lost_columns_by, over_pair, pair_over, rows_meant, table_meant, Below}
 use Rattle.roll_core.proofs.Words.finite
@@ -129,10 +129,6 @@ next_stored wanted form new tables f l h = each_mapped tidied_table _
 
 -- ---- the steps
 
-tidy_calm : (s : State) (mode : Mode) → ModeStands s mode → s.kind ≡ kind.Complete → mode ≡ Calm
-tidy_calm s Calm h k = refl
-tidy_calm s (Both name schema fates) h k = let no : kind.Complete ≡ kind.Nothing = sym k ∙ h.no_steps in cc
-
 two_form : (former : Option Former) (frame : State) (number : ℕ) → frame.mode ≡ Calm → frame.left ≡ 2 → form_in former frame number ≡ over_pair Left (former_pair former frame number)
 two_form former frame number m l = rw (m, l) refl
 
@@ -191,7 +187,7 @@ third frame former tables stored m k l =
 pub is_tidied : Below → (frame : State) (former : Option Former) (tables : List StoredTable) → IsStored (record { frame = frame; former = former; tables = tables }) → frame.kind ≡ kind.Complete → IsTidied (frame.left == 2) frame former tables
 is_tidied law frame former tables stored k =
     let s = meant frame tables in
-    let calm = tidy_calm s frame.mode stored.stands.mode k in
+    let calm = elim frame.mode as (λ mode. ModeStands s mode → mode ≡ Calm) [ Calm ↦ λ h. refl | Both name schema fates ↦ λ h. let no : kind.Complete ≡ kind.Nothing = sym k ∙ h.no_steps in cc ] stored.stands.mode in
     by_left calm (subst (λ by. StepsStand by frame.left) k stored.stands.steps)
   where
     by_left : frame.mode ≡ Calm → (frame.left ≡ 2) ⊎ (frame.left ≡ 1) → IsTidied (frame.left == 2) frame former tables
@@ -199,14 +195,6 @@ is_tidied law frame former tables stored k =
     by_left m (inr l) = subst (λ two. IsTidied two frame former tables) (sym (ap (λ n. n == 2) l)) (third frame former tables stored m k l)
 
 -- ---- the whole
-
-reply_by : (two : Bool) (second third : State) → Complete (if two then 2 else 3) ≡ (if two then stepped 2 second else stepped 3 third).reply
-reply_by true a b = refl
-reply_by false a b = refl
-
-after_by : (two : Bool) (second third : State) → (if two then second else third) ≡ (if two then stepped 2 second else stepped 3 third).after
-after_by true a b = refl
-after_by false a b = refl
 
 pub same_parts : (f g : State) (a b : Option Former) (ts us : List StoredTable) → f ≡ g → a ≡ b → ts ≡ us → ◌≡◌ {A = Stored} (record { frame = f; former = a; tables = ts }) (record { frame = g; former = b; tables = us })
 same_parts f g a b ts us p q r = rw (p, q, r) refl
@@ -219,4 +207,6 @@ tidies law stored is k =
     let next = is_tidied law stored.frame stored.former stored.tables is k in
     let second = record s { left = 1; tables = map table_without_loss s.tables; lost_columns = [] } in
     let third = record s { left = 0; kind = kind.Nothing } in
-    ((tidied s, rw k refl, reply_by (stored.frame.left == 2) second third, next.means ∙ after_by (stored.frame.left == 2) second third), next.kept)
+    let reply = elim (stored.frame.left == 2) as (λ two. Complete (if two then 2 else 3) ≡ (if two then stepped 2 second else stepped 3 third).reply) [ true ↦ refl | false ↦ refl ] in
+    let after = elim (stored.frame.left == 2) as (λ two. (if two then second else third) ≡ (if two then stepped 2 second else stepped 3 third).after) [ true ↦ refl | false ↦ refl ] in
+    ((tidied s, rw k refl, reply, next.means ∙ after), next.kept)

@@ -2,9 +2,9 @@
 use Rattle.roll_core.proofs.Words.{Below, ◌||◌, map-set, slice_get-get_or, slice_get-map, SameForms, FormSuits, Own, Paired, Left, Trimmed, Form, lost_columns_of, arith, Result, Ok, Err, OnErr, ◌+◌}
 use Rattle.roll_core.proofs.Words.{◌≡◌, ◌≤◌, ◌<◌, ◌==◌, ◌∙◌, ℕ, zero, suc, List, [], ◌∷◌, Bool, true, false, Some, find, if◌then◌else◌, length, map, nat_eq, ap, refl, sym, subst, option_map}
 use Rattle.roll_core.proofs.Words.{option_and_then, le_of_eq, slice_get, slice_index_or, slice_set, sum_by, AllByRecursion, list_all, list_any, option_map_or, nat_tests, length-map, sum_by-cons}
-use Rattle.roll_core.proofs.Words.{Change, both, some_same, Table, table_numbered, Kept, Site, number_of, Mode, Calm, Both, State, numbers_of, IsState, ModeStands, NumbersAscend, newer_schema}
-use Rattle.roll_core.proofs.Words.{rows_of, table_on, with_rows, New, Old, Side, OwnTable, IsSite, Runs, meant, numbers_in, stored_count, changed, with_changes, own_count, seen, StoredTable, kept}
-use Rattle.roll_core.proofs.Words.{rows_meant, table_meant}
+use Rattle.roll_core.proofs.Words.{Change, both, some_same, Table, table_numbered, Kept, Site, number_of, Calm, Both, State, numbers_of, IsState, ModeStands, NumbersAscend, newer_schema, rows_of}
+use Rattle.roll_core.proofs.Words.{table_on, with_rows, New, Old, Side, OwnTable, IsSite, Runs, meant, numbers_in, stored_count, changed, with_changes, own_count, seen, StoredTable, kept, rows_meant}
+use Rattle.roll_core.proofs.Words.{table_meant}
 use Rattle.roll_core.proofs.Words.finite
 
 -- ---- elements
@@ -85,13 +85,11 @@ among numbers number (first ∷ tables) table h e =
       | false ↦ λ k e. among numbers number tables table parts.1 e
     ] refl e
 
-newer_among : (s : State) (mode : Mode) → ModeStands s mode → (number : ℕ) (table : Table) → option_and_then (λ schema. table_numbered schema number) (newer_schema mode) ≡ Some table → list_any (nat_eq number) (numbers_of s) ≡ true
-newer_among s Calm h number table e = cc
-newer_among s (Both name schema fates) h number table e = among (numbers_of s) number schema.tables table h.version.rows e
-
 side_among : (s : State) → IsState s → (side : Side) (number : ℕ) (table : Table) → table_on s side number ≡ Some table → list_any (nat_eq number) (numbers_of s) ≡ true
 side_among s stands Old number table e = among (numbers_of s) number s.schema.tables table stands.version.rows e
-side_among s stands New number table e = newer_among s s.mode stands.mode number table e
+side_among s stands New number table e =
+    elim s.mode as (λ mode. ModeStands s mode → option_and_then (λ schema. table_numbered schema number) (newer_schema mode) ≡ Some table → list_any (nat_eq number) (numbers_of s) ≡ true)
+    [ Calm ↦ λ h e. cc | Both name schema fates ↦ λ h e. among (numbers_of s) number schema.tables table h.version.rows e ] stands.mode e
 
 on_meant : (frame : State) (tables : List StoredTable) (side : Side) (number : ℕ) → table_on (meant frame tables) side number ≡ table_on frame side number
 on_meant frame tables Old number = refl
