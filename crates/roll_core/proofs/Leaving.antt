@@ -155,15 +155,8 @@ lost_same fates (table ∷ tables) = ap (cons_option (lost_by fates table)) (los
 
 -- ---- the step
 
--- The frame that it leaves.
-abbrev left_of : State → List StoredTable → List ℕ → Schema → List (ℕ × Fate) → State
-left_of frame tables name schema fates = record frame { version = name; schema = schema; mode = Calm; left = 2; kind = kind.Complete; lost_columns = filter_map (lost_by fates) tables }
-
-abbrev gone_of : State → List (ℕ × Fate) → Former
-gone_of frame fates = record { version = frame.version; schema = frame.schema; fates = fates }
-
 left_stored : UnfilledRowsAreBegun → (frame : State) (all : List StoredTable) (name : List ℕ) (schema : Schema) (fates : List (ℕ × Fate)) (new tables : List StoredTable) → AllByRecursion (Stays frame all schema fates) tables
-    → AllByRecursion (IsStoredTable (record { frame = left_of frame all name schema fates; former = Some (gone_of frame fates); tables = new })) (map left_table tables)
+    → AllByRecursion (IsStoredTable (record { frame = record frame { version = name; schema = schema; mode = Calm; left = 2; kind = kind.Complete; lost_columns = filter_map (lost_by fates) all }; former = Some (record { version = frame.version; schema = frame.schema; fates = fates }); tables = new })) (map left_table tables)
 left_stored law frame all name schema fates new [] h = tt
 left_stored law frame all name schema fates new (table ∷ tables) h =
     let stays = h.0 in

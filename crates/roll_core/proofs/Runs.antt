@@ -25,10 +25,6 @@ no_lens new None = refl
 no_lens None (Some old) = refl
 no_lens (Some new) (Some old) = refl
 
--- A table without a lens isn't shared.
-pub shared_among : (old new : Schema) (fates : List (ℕ × Fate)) (number : ℕ) → lens_among fates number ≡ None → shared_in old new fates number ≡ None
-shared_among old new fates number l = ap (λ lens. shared_of lens (table_numbered new number) (table_numbered old number)) l ∙ no_lens (table_numbered new number) (table_numbered old number)
-
 shape_found : (found : Option Table) (shape : Shape) → option_map (λ table. table.2) found ≡ Some shape → (table : Table) × (found ≡ Some table)
 shape_found None shape h = cc
 shape_found (Some table) shape h = (table, refl)

@@ -11,7 +11,7 @@ use Rattle.trigger_pair.specs.Stored.{begun}
 use Rattle.roll_core.proofs.Outcomes.{err_by, guarded_ok, without_ok}
 use Rattle.roll_core.proofs.Stepped.{StepsTo, rows_next, no_form}
 use Rattle.roll_core.proofs.Tables.{each_all, each_mapped, none_lost}
-use Rattle.roll_core.proofs.Runs.{joined_both, joined_pair, shared_among, shared_parts}
+use Rattle.roll_core.proofs.Runs.{joined_both, joined_pair, no_lens, shared_of, shared_parts}
 
 -- ---- one row
 
@@ -64,7 +64,7 @@ is_begun law frame all plan table b stand =
     let table_by : Form → StoredTable = λ form. record { number = number; form = form; rows = map (stepped_row form) table.rows } in
     elim (lens_among plan.fates number) as (λ lens. lens_among plan.fates number ≡ lens → IsBegun frame plan table) [
       | None ↦ λ l.
-          let form : begun_form frame plan number ≡ Own = ap (over_pair Paired) (shared_among frame.schema plan.schema plan.fates number l) in
+          let form : begun_form frame plan number ≡ Own = ap (over_pair Paired) (ap (λ lens. shared_of lens (table_numbered plan.schema number) (table_numbered frame.schema number)) l ∙ no_lens (table_numbered plan.schema number) (table_numbered frame.schema number)) in
           let next = rows_next Own Own (kept Own) table.rows (each_all (λ row. (refl, tt)) table.rows) in
           record {
             means = ap (λ form. table_meant (table_by form)) form ∙ ap (λ (rows : List Kept). (number, rows)) next.0 ∙ ap meant_by (sym l);
@@ -121,10 +121,6 @@ pub record IsStarted (frame : State) (former : Option Former) (tables : List Sto
   pub means : meant (begun_frame frame name plan) (map (begun_table frame plan) tables) ≡ started (meant frame tables) name plan
   pub kept : AreKept (record { frame = begun_frame frame name plan; former = former; tables = map (begun_table frame plan) tables })
 
-had_former : (frame : State) (name : List ℕ) (plan : Plan) (former : Option Former) → HasFormer frame former → HasFormer (begun_frame frame name plan) former
-had_former frame name plan None h = h
-had_former frame name plan (Some former) h = (h.0, record { schema = h.1.schema; joined = h.1.joined })
-
 pub is_started : Below → (frame : State) (former : Option Former) (tables : List StoredTable) (m : Migration) (plan : Plan) → IsState (meant frame tables) → AreKept (record { frame = frame; former = former; tables = tables })
     → may_not_start (meant frame tables) m ≡ None → planned (meant frame tables) m ≡ Ok plan → IsStarted frame former tables m.name plan
 is_started law frame former tables m plan stands k may is =
@@ -134,10 +130,11 @@ is_started law frame former tables m plan stands k may is =
     let none = stands.lost (ap (λ by. may_lose by s.left) newer.no_steps) in
     let b : Begins frame plan = record { old = stands.version.schema_stands; new = newer.version.schema_stands; joined = newer.joined; nothing_lost = none.columns } in
     let stored : Stored = record { frame = frame; former = former; tables = tables } in
+    let had = elim former as (λ former. HasFormer frame former → HasFormer (begun_frame frame m.name plan) former) [ None ↦ λ h. h | Some former ↦ λ h. (h.0, record { schema = h.1.schema; joined = h.1.joined }) ] k.former in
     let own = all_own s former frame stored tables (λ number. no_form former frame number (is_calm s m may) left) stands.tables k.tables in
     record {
       means = ap (λ (ts : List (ℕ × List Kept)). record (begun_frame frame m.name plan) { tables = ts }) (tables_mean law frame tables plan b tables own);
-      kept = record { once = k.once; former = had_former frame m.name plan former k.former; tables = tables_stored law frame m.name former tables plan (map (begun_table frame plan) tables) b tables own };
+      kept = record { once = k.once; former = had; tables = tables_stored law frame m.name former tables plan (map (begun_table frame plan) tables) b tables own };
     }
 
 -- ---- the whole

@@ -145,10 +145,6 @@ pub record IsTidied (two : Bool) (frame : State) (former : Option Former) (table
       ≡ (if two then record (meant frame tables) { left = 1; tables = map table_without_loss (map table_meant tables); lost_columns = [] } else record (meant frame tables) { left = 0; kind = kind.Nothing })
   pub kept : AreKept (record { frame = if two then record frame { left = 1; lost_columns = [] } else record frame { left = 0; kind = kind.Nothing }; former = if two then former else None; tables = map tidied_table tables })
 
-still_former : (frame : State) (former : Option Former) → frame.left ≡ 2 → HasFormer frame former → HasFormer (record frame { left = 1; lost_columns = [] }) former
-still_former frame None l h = let no : 0 ≡ 2 = sym h ∙ l in absurd (omega (arith, no))
-still_former frame (Some former) l h = (omega arith, record { schema = h.1.schema; joined = h.1.joined })
-
 second : Below → (frame : State) (former : Option Former) (tables : List StoredTable) → IsStored (record { frame = frame; former = former; tables = tables })
     → frame.mode ≡ Calm → frame.left ≡ 2 → IsTidied true frame former tables
 second law frame former tables stored m l =
@@ -162,7 +158,7 @@ second law frame former tables stored m l =
       means = ap (λ (ts : List (ℕ × List Kept)). record new { tables = ts }) (next_mean without_loss form tables each);
       kept = record {
         once = stored.once;
-        former = still_former frame former l stored.former;
+        former = elim former as (λ former. HasFormer frame former → HasFormer new former) [ None ↦ λ h. let no : 0 ≡ 2 = sym h ∙ l in absurd (omega (arith, no)) | Some former ↦ λ h. (omega arith, record { schema = h.1.schema; joined = h.1.joined }) ] stored.former;
         tables = next_stored without_loss form (record { frame = new; former = former; tables = map tidied_table tables }) tables (λ number. sym (one_form former new number m refl)) refl each;
       };
     }

@@ -11,6 +11,4 @@ pub returns-clause-stored : goal.returns-clause-stored
 returns-clause-stored c = first_is c.frame_of.result c.in_ok-beginning.field-0 c.push.new.self.items c.new-tables.result.items _ c.in_ok-beginning.ensures c.frame_of.ensures c.new-tables.ensures.items c.in_ok-push.ensures.items refl refl c.new.ensures
 
 pub returns-clause-means : goal.returns-clause-means
-returns-clause-means c =
-    let is : parts c.frame_of.result None c.push.new.self.items ≡ first_stored = first_is c.frame_of.result c.in_ok-beginning.field-0 c.push.new.self.items c.new-tables.result.items _ c.in_ok-beginning.ensures c.frame_of.ensures c.new-tables.ensures.items c.in_ok-push.ensures.items refl refl c.new.ensures in
-    ap meaning is
+returns-clause-means c = ap meaning (returns-clause-stored c)
