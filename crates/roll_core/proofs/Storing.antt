@@ -2,7 +2,7 @@
 use Rattle.roll_core.proofs.Words.{halves_of, Shape, get_or_append_left, ◌≡◌, ◌∙◌, ◌<◌, ℕ, suc, ℤ, ◌+◌, List, [], ◌∷◌, ◌++◌, true, false, if◌then◌else◌, Option, Some, None, ap, refl, sym, subst}
 use Rattle.roll_core.proofs.Words.{length, map, take, append_assoc, arith, not, inl, zero-add, slice_index_or, filter, enumerate_from, zip, take_at, sum_by-cons, Value, Null, row_fits, and_false}
 use Rattle.roll_core.proofs.Words.{columns_fit, columns_long, row_long, value_weight, Cell, Carry, Make, Still, is_carry, Halves, Kept, lost_columns_in, lost_value, lost_weight, Pair, Agree, IsPair}
-use Rattle.roll_core.proofs.Words.{PairsAreLong, mark_value, new_half, new_view, old_view, shadow_values, stored_row, FilledBefore, LeftRowsKeep, left_row, left_value, trimmed, Form, Own, Paired}
+use Rattle.roll_core.proofs.Words.{PairsAreLong, mark_value, new_half, new_view, old_view, shadow_values, stored_row, FilledBefore, LeftRowsKeep, left_row, left_value, Form, Own, Paired}
 use Rattle.roll_core.proofs.Words.{Left, Trimmed, IsStoredRow, kept, lost_of, stored_values, Below}
 
 -- ---- which rows can be stored in a form
