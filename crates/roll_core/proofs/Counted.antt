@@ -1,24 +1,10 @@
 -- How many rows changes leave.
-use Rattle.std.proofs.Common.{arith, ◌≡◌, ◌≤◌, ◌∙◌, ℕ, suc, ◌+◌, ◌-◌, ℤ, List, [], ◌∷◌, Bool, true, false, ◌||◌, Option, Some, None, Result, Ok, cond, is_some, nat_lt, length, map, filter, ap, refl, sym, subst, int_cmp, int_eq, option_map}
-use Rattle.std.specs.Cmp.{int_cmp_total, int_eq_equiv}
-use Rattle.std.specs.FinMap as finite
-use Rattle.std.specs.List.{AllByRecursion as Each}
-use Rattle.std.specs.Ordering.{eq_by_cmp}
-use Rattle.std.proofs.lemmas.Bool.Decides.{nat_tests}
-use Rattle.sql_base.specs.Laws.{and_then_ok, ok_same}
-use Rattle.sql_base.specs.declared.values.Value.{Value}
-use Rattle.sql_eval.specs.Row.{least}
-use Rattle.row_rules.specs.declared.kinds.Cause.{Cause}
-use Rattle.row_rules.specs.declared.kinds.Change.{Change}
-use Rattle.row_rules.specs.declared.kinds.Change.TheVariants.{Put, Remove}
-use Rattle.row_rules.specs.declared.kinds.Kept.{Kept}
-use Rattle.row_rules.specs.Accept.{has_key, is_taken, key_cause, keys_of, times}
-use Rattle.row_rules.specs.Causes.{taken_key}
-use Rattle.row_rules.specs.Changes.{put_all as put_each, rows_put}
-use Rattle.mig_lens.specs.Plan.{Table}
-use Rattle.row_store.specs.Stored.{Rows}
-use Rattle.roll_core.specs.declared.forms.Form.{Form}
-use Rattle.roll_core.specs.Changing.{put_all, put_stored, stored_change}
+use Rattle.roll_core.proofs.Words.{arith, ◌≡◌, ◌≤◌, ◌∙◌, suc, ◌+◌, ◌-◌, ℤ, List, [], ◌∷◌, Bool, true, false, ◌||◌, Some, None, Result, Ok, cond, is_some, nat_lt, length, map, filter, ap, refl, sym}
+use Rattle.roll_core.proofs.Words.{subst, int_cmp, int_eq, int_cmp_total, int_eq_equiv, Each, eq_by_cmp, nat_tests, and_then_ok, ok_same, Value, least, Cause, Change, Put, Remove, Kept, has_key}
+use Rattle.roll_core.proofs.Words.{is_taken, key_cause, keys_of, times, taken_key, put_each, rows_put, Table, Rows, Form, put_all, put_stored, stored_change}
+use Rattle.roll_core.proofs.Words.finite
+use Rattle.roll_core.proofs.Outcomes.{none_mapped}
+use Rattle.roll_core.proofs.Tables.{each_of}
 
 -- ---- rows that are put, row by row
 
@@ -33,45 +19,11 @@ rows_put-all (row ∷ rows) = ap (λ rest. row ∷ rest) (rows_put-all rows)
 
 -- ---- new keys
 
-least_none : (keys : List ℤ) → least keys ≡ None → keys ≡ []
-least_none [] e = refl
-least_none (key ∷ keys) e = cc
-
 none_pass : (q : ℤ → Bool) (rows : List Kept) → filter q (map (λ row. row.key) rows) ≡ [] → Each (λ row. q row.key ≡ false) rows
 none_pass q [] e = tt
-none_pass q (row ∷ rows) e = by_test (q row.key) refl e (none_pass q rows)
-  where
-    by_test : (b : Bool) → q row.key ≡ b → cond b (row.key ∷ filter q (map (λ row. row.key) rows)) (filter q (map (λ row. row.key) rows)) ≡ [] → (filter q (map (λ row. row.key) rows) ≡ [] → Each (λ row. q row.key ≡ false) rows) → Each (λ row. q row.key ≡ false) (row ∷ rows)
-    by_test true k e there = cc
-    by_test false k e there = (k, there e)
-
-neither : (a b : Bool) → (a || b) ≡ false → (a ≡ false) × (b ≡ false)
-neither true b h = cc
-neither false b h = (refl, h)
-
-no_cause : (table : Table) (o : Option ℤ) → option_map (taken_key table) o ≡ None → o ≡ None
-no_cause table None h = refl
-no_cause table (Some key) h = cc
-
--- No older row has the key of a new one, and no other new one has it.
-pub record Fresh (older new : List Kept) : Type 0 where
-  pub apart : Each (λ row. has_key row.key older ≡ false) new
-  pub once : Each (λ row. nat_lt 1 (times row.key new) ≡ false) new
-
-apart_of : (older all new : List Kept) → Each (λ row. is_taken older all row.key ≡ false) new → Each (λ row. has_key row.key older ≡ false) new
-apart_of older all [] h = tt
-apart_of older all (row ∷ new) h = ((neither (has_key row.key older) (nat_lt 1 (times row.key all)) h.0).0, apart_of older all new h.1)
-
-once_of : (older all new : List Kept) → Each (λ row. is_taken older all row.key ≡ false) new → Each (λ row. nat_lt 1 (times row.key all) ≡ false) new
-once_of older all [] h = tt
-once_of older all (row ∷ new) h = ((neither (has_key row.key older) (nat_lt 1 (times row.key all)) h.0).1, once_of older all new h.1)
-
-pub fresh : (table : Table) (older new : List Kept) → key_cause table older new ≡ None → Fresh older new
-fresh table older new h =
-    let none = none_pass (is_taken older new) new (least_none (filter (is_taken older new) (keys_of new)) (no_cause table (least (filter (is_taken older new) (keys_of new))) h)) in
-    record { apart = apart_of older new new none; once = once_of older new new none }
-
--- ---- no key twice
+none_pass q (row ∷ rows) e =
+    elim (q row.key) as (λ b. q row.key ≡ b → cond b (row.key ∷ filter q (map (λ row. row.key) rows)) (filter q (map (λ row. row.key) rows)) ≡ [] → Each (λ row. q row.key ≡ false) (row ∷ rows))
+    [ true ↦ λ k e. cc | false ↦ λ k e. (k, none_pass q rows e) ] refl e
 
 abbrev pub Distinct : List Kept → Type 0
 Distinct [] = Unit {0}
@@ -79,11 +31,9 @@ Distinct (row ∷ rows) = Each (λ other. int_eq row.key other.key ≡ false) ro
 
 never : (key : ℤ) (rows : List Kept) → times key rows ≡ 0 → Each (λ row. int_eq key row.key ≡ false) rows
 never key [] e = tt
-never key (row ∷ rows) e = by_test (int_eq key row.key) refl e (never key rows)
-  where
-    by_test : (b : Bool) → int_eq key row.key ≡ b → length (cond b (row ∷ filter (λ row. int_eq key row.key) rows) (filter (λ row. int_eq key row.key) rows)) ≡ 0 → (times key rows ≡ 0 → Each (λ row. int_eq key row.key ≡ false) rows) → Each (λ row. int_eq key row.key ≡ false) (row ∷ rows)
-    by_test true k e there = absurd (omega (arith, e))
-    by_test false k e there = (k, there e)
+never key (row ∷ rows) e =
+    elim (int_eq key row.key) as (λ b. int_eq key row.key ≡ b → length (cond b (row ∷ filter (λ row. int_eq key row.key) rows) (filter (λ row. int_eq key row.key) rows)) ≡ 0 → Each (λ row. int_eq key row.key ≡ false) (row ∷ rows))
+    [ true ↦ λ k e. absurd (omega (arith, e)) | false ↦ λ k e. (k, never key rows e) ] refl e
 
 head_once : (row : Kept) (rows : List Kept) → nat_lt 1 (times row.key (row ∷ rows)) ≡ false → times row.key rows ≡ 0
 head_once row rows h =
@@ -92,33 +42,34 @@ head_once row rows h =
     grind (arith, nat_tests)
 
 fewer : (key : ℤ) (row : Kept) (rows : List Kept) → times key rows ≤ times key (row ∷ rows)
-fewer key row rows = by_test (int_eq key row.key)
-  where
-    by_test : (b : Bool) → times key rows ≤ length (cond b (row ∷ filter (λ row. int_eq key row.key) rows) (filter (λ row. int_eq key row.key) rows))
-    by_test true = omega arith
-    by_test false = omega arith
+fewer key row rows =
+    elim (int_eq key row.key) as (λ b. times key rows ≤ length (cond b (row ∷ filter (λ row. int_eq key row.key) rows) (filter (λ row. int_eq key row.key) rows))) [ true ↦ omega arith | false ↦ omega arith ]
 
-tail_once : (row : Kept) (rows new : List Kept) → Each (λ other. nat_lt 1 (times other.key (row ∷ rows)) ≡ false) new → Each (λ other. nat_lt 1 (times other.key rows) ≡ false) new
-tail_once row rows [] h = tt
-tail_once row rows (other ∷ new) h =
-    let less = fewer other.key row rows in
-    let few = h.0 in
-    let here : nat_lt 1 (times other.key rows) ≡ false = grind (arith, nat_tests) in
-    (here, tail_once row rows new h.1)
+tail_once : (row : Kept) (rows : List Kept) (other : Kept) → nat_lt 1 (times other.key (row ∷ rows)) ≡ false → nat_lt 1 (times other.key rows) ≡ false
+tail_once row rows other few = let less = fewer other.key row rows in grind (arith, nat_tests)
 
 distinct : (rows : List Kept) → Each (λ row. nat_lt 1 (times row.key rows) ≡ false) rows → Distinct rows
 distinct [] h = tt
-distinct (row ∷ rows) h = (never row.key rows (head_once row rows h.0), distinct rows (tail_once row rows rows h.1))
+distinct (row ∷ rows) h = (never row.key rows (head_once row rows h.0), distinct rows (each_of (tail_once row rows) rows h.1))
+
+-- No older row has the key of a new one, and no other new one has it.
+pub record Fresh (older new : List Kept) : Type 0 where
+  pub apart : Each (λ row. has_key row.key older ≡ false) new
+  pub once : Distinct new
+
+pub fresh : (table : Table) (older new : List Kept) → key_cause table older new ≡ None → Fresh older new
+fresh table older new h =
+    let none = none_pass (is_taken older new) new (elim (filter (is_taken older new) (keys_of new)) as (λ keys. least keys ≡ None → keys ≡ []) [ [] ↦ λ e. refl | key ∷ keys ↦ λ e. cc ] (none_mapped (taken_key table) (least (filter (is_taken older new) (keys_of new))) h)) in
+    let either = λ (row : Kept). elim (has_key row.key older) as (λ a. (a || nat_lt 1 (times row.key new)) ≡ false → (a ≡ false) × (nat_lt 1 (times row.key new) ≡ false)) [ true ↦ λ h. cc | false ↦ λ h. (refl, h) ] in
+    record { apart = each_of (λ row n. (either row n).0) new none; once = distinct new (each_of (λ row n. (either row n).1) new none) }
 
 -- ---- lengths
 
-inserted_here : (rows : Rows) (key : ℤ) (values : List Value) (other : ℤ) (b : Bool) → finite.contains_key rows other ≡ b → (b ≡ true → Unit {0}) → int_eq key other ≡ false → finite.contains_key (finite.insert rows key values) other ≡ b
-inserted_here rows key values other b h u e =
-    ap is_some (finite.get-insert int_cmp_total rows key values other) ∙ ap (λ t. is_some (cond t (Some values) (finite.get rows other))) (int_eq_equiv.symm other key ∙ e) ∙ h
-
 still_apart : (rows : Rows) (key : ℤ) (values : List Value) (new : List Kept) → Each (λ row. finite.contains_key rows row.key ≡ false) new → Each (λ other. int_eq key other.key ≡ false) new → Each (λ row. finite.contains_key (finite.insert rows key values) row.key ≡ false) new
 still_apart rows key values [] h d = tt
-still_apart rows key values (row ∷ new) h d = (inserted_here rows key values row.key false h.0 (λ e. tt) d.0, still_apart rows key values new h.1 d.1)
+still_apart rows key values (row ∷ new) h d =
+    let other = ap (λ t. is_some (cond t (Some values) (finite.get rows row.key))) (int_eq_equiv.symm row.key key ∙ d.0) in
+    (ap is_some (finite.get-insert int_cmp_total rows key values row.key) ∙ other ∙ h.0, still_apart rows key values new h.1 d.1)
 
 -- New rows of new keys are as many more.
 pub new_count : (form : Form) (before : Rows) (new : List Kept) (rows : Rows) → Each (λ row. finite.contains_key rows row.key ≡ false) new → Distinct new → finite.len (put_all (map (stored_change form before) (map Put new)) rows) ≡ finite.len rows + length new
@@ -132,11 +83,8 @@ new_count form before (row ∷ new) rows h d =
 still_there : (rows : Rows) (key : ℤ) (values : List Value) (new : List Kept) → Each (λ row. finite.contains_key rows row.key ≡ true) new → Each (λ row. finite.contains_key (finite.insert rows key values) row.key ≡ true) new
 still_there rows key values [] h = tt
 still_there rows key values (row ∷ new) h =
-    (ap is_some (finite.get-insert int_cmp_total rows key values row.key) ∙ by_test (eq_by_cmp int_cmp row.key key), still_there rows key values new h.1)
-  where
-    by_test : (b : Bool) → is_some (cond b (Some values) (finite.get rows row.key)) ≡ true
-    by_test true = refl
-    by_test false = h.0
+    let here = elim (eq_by_cmp int_cmp row.key key) as (λ b. is_some (cond b (Some values) (finite.get rows row.key)) ≡ true) [ true ↦ refl | false ↦ h.0 ] in
+    (ap is_some (finite.get-insert int_cmp_total rows key values row.key) ∙ here, still_there rows key values new h.1)
 
 -- Rows of keys that are there are no more.
 pub same_count : (form : Form) (before : Rows) (new : List Kept) (rows : Rows) → Each (λ row. finite.contains_key rows row.key ≡ true) new → finite.len (put_all (map (stored_change form before) (map Put new)) rows) ≡ finite.len rows
@@ -146,18 +94,11 @@ same_count form before (row ∷ new) rows h =
     let one : finite.len after ≡ finite.len rows = finite.len-insert int_cmp_total rows row.key _ ∙ ap (λ b. cond b (finite.len rows) (finite.len rows + 1)) h.0 in
     same_count form before new after (still_there rows row.key _ new h.1) ∙ one
 
-less_or_same : (b : Bool) (n : ℕ) → cond b (n - 1) n ≤ n
-less_or_same true n = omega arith
-less_or_same false n = omega arith
-
 -- Rows that are removed leave no more.
 pub removed_count : (form : Form) (before : Rows) (gone : List Kept) (rows : Rows) → finite.len (put_all (map (stored_change form before) (map (λ row. Remove row.key) gone)) rows) ≤ finite.len rows
 removed_count form before [] rows = omega arith
 removed_count form before (row ∷ gone) rows =
     let after = finite.remove rows row.key in
-    let one : finite.len after ≤ finite.len rows = subst (λ n. n ≤ finite.len rows) (sym (finite.len-remove int_cmp_total rows row.key)) (less_or_same (finite.contains_key rows row.key) (finite.len rows)) in
+    let one : finite.len after ≤ finite.len rows = subst (λ n. n ≤ finite.len rows) (sym (finite.len-remove int_cmp_total rows row.key)) (elim (finite.contains_key rows row.key) as (λ b. cond b (finite.len rows - 1) (finite.len rows) ≤ finite.len rows) [ true ↦ omega arith | false ↦ omega arith ]) in
     let rest = removed_count form before gone after in
     omega (arith, one, rest)
-
-pub distinct_rows : (older new : List Kept) → Fresh older new → Distinct new
-distinct_rows older new f = distinct new f.once

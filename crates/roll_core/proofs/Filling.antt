@@ -1,75 +1,24 @@
 -- A batch: its rows are stored as they are filled, or it is refused as it is refused.
-use Rattle.std.proofs.Common.{◌≡◌, ◌∙◌, ℕ, zero, suc, List, [], ◌∷◌, true, false, Option, Some, None, Result, Ok, Err, filter, map, take, ap, refl, sym, subst, option_map}
-use Rattle.std.specs.Prelude.{slice_get, slice_set}
-use Rattle.std.specs.FinMap as finite
-use Rattle.std.specs.List.{AllByRecursion as Each}
-use Rattle.std.specs.Option.{option_map_or}
-use Rattle.sql_base.specs.Laws.{some_same}
-use Rattle.sql_base.specs.Outcome.{and_then}
-use Rattle.mig_lens.specs.declared.faults.Refusal.{Refusal}
-use Rattle.row_rules.specs.declared.kinds.Cause.{Cause}
-use Rattle.row_rules.specs.declared.kinds.Change.{Change}
-use Rattle.row_rules.specs.declared.kinds.Job.TheVariants as job
-use Rattle.row_rules.specs.declared.kinds.Kept.{Kept}
-use Rattle.row_rules.specs.declared.stops.Stop.{Stop}
-use Rattle.row_rules.specs.declared.stops.Stop.TheVariants.{Because, NoMemory}
-use Rattle.row_rules.specs.Changes.{after_changes, cause_together, changes}
-use Rattle.row_rules.specs.Outcome.{map_fault, without}
-use Rattle.row_rules.specs.Rows.{missing_keys as keys_missing, rows_at}
-use Rattle.row_rules.specs.Site.{is_missing, name_of, number_of}
-use Rattle.machine.specs.declared.events.Reply.{Reply}
-use Rattle.machine.specs.declared.events.Reply.TheVariants.{Filled}
-use Rattle.machine.specs.declared.states.State.{State}
-use Rattle.machine.specs.Done.{CommandOutcome, answered, as_outcome}
-use Rattle.machine.specs.Follows.{goes_on_filling}
-use Rattle.machine.specs.Laws.{FillingStands, leaves_all}
-use Rattle.machine.specs.Migrate.{batch, fill_keys, least_batch, refused_batch}
-use Rattle.machine.specs.Sites.{HalvesAgree, SiteRow}
-use Rattle.machine.specs.Standing.{Ascends}
-use Rattle.machine.specs.State.{Found, Shared, filling_site, missing_keys, rows_of, shared, site_of, with_rows}
-use Rattle.machine.specs.Statement.{changed as changed_by, written_reply}
-use Rattle.machine.specs.Words.{New}
-use Rattle.row_store.specs.Laws.{RemovedIsLeftOut}
-use Rattle.roll_core.specs.declared.forms.Form.{Form}
-use Rattle.roll_core.specs.declared.forms.Form.TheVariants.{Own, Paired, Left, Trimmed}
-use Rattle.roll_core.specs.declared.store.StoredTable.{StoredTable as OwnTable}
-use Rattle.roll_core.specs.Batch.{Fills, FillsThrough, batch_at, batch_changes, changes_at}
-use Rattle.roll_core.specs.Changing.{changed}
-use Rattle.roll_core.specs.Running.{Comes, FormSuits, Runs, RowsStored, SameForms, meant}
-use Rattle.roll_core.specs.Seen.{seen}
-use Rattle.roll_core.specs.Store.{StoredTable, kept, rows_meant, table_meant}
-use Rattle.roll_core.proofs.Changed.{Stores, changes_meant, changes_stored}
+use Rattle.roll_core.proofs.Words.{Site, ◌≡◌, ◌∙◌, ℕ, List, [], true, false, Option, Some, None, Result, Ok, Err, filter, map, take, ap, refl, sym, subst, option_map, slice_get, slice_set, Each}
+use Rattle.roll_core.proofs.Words.{option_map_or, and_then_ok, some_same, and_then, Refusal, Cause, Change, Kept, Stop, Because, NoMemory, cause_together, changes, map_fault, without, keys_missing}
+use Rattle.roll_core.proofs.Words.{rows_at, is_missing, name_of, number_of, Reply, Filled, State, CommandOutcome, answered, as_outcome, goes_on_filling, leaves_all, batch, fill_keys, least_batch}
+use Rattle.roll_core.proofs.Words.{refused_batch, HalvesAgree, SiteRow, Ascends, Found, Shared, filling_site, missing_keys, rows_of, shared, site_of, changed_by, written_reply, New, Form, OwnTable}
+use Rattle.roll_core.proofs.Words.{Fills, FillsThrough, batch_at, batch_changes, changes_at, changed, Comes, FormSuits, Runs, RowsStored, SameForms, meant, seen, StoredTable, kept, rows_meant, Below}
+use Rattle.roll_core.proofs.Words.finite
+use Rattle.roll_core.proofs.Words.job
+use Rattle.roll_core.proofs.Rows.{Stores}
 use Rattle.roll_core.proofs.Fitting.{Weighs, older_weigh}
-use Rattle.roll_core.proofs.Jobs.{WritingHolds, job_stores, stored_agree, stored_sites}
-use Rattle.roll_core.proofs.Missing.{each_left, each_taken, first_missing}
-use Rattle.roll_core.proofs.Tables.{IsRead, all_at, all_set, got_mapped, rows_of-read, with_rows-set}
-use Rattle.roll_core.proofs.Written.{placed_weigh}
+use Rattle.roll_core.proofs.Jobs.{job_stores, stored_agree, stored_sites, leaves, placed_weigh}
+use Rattle.roll_core.proofs.Outcomes.{err_by, map_fault_ok, ok_by, without_ok}
+use Rattle.roll_core.proofs.Missing.{each_left, each_taken, first_rows}
+use Rattle.roll_core.proofs.Tables.{IsRead, all_at, got_mapped, rows_of-read, suits_meant}
 
 -- ---- how it is refused, and how not
 
-ok_by : {T U : Type 0} (r : Result T Refusal) (o : T → Option Refusal) (done : T → U) (x : T) → and_then r (λ y. without (o y) y) ≡ Ok x → and_then r (λ y. without (o y) (done y)) ≡ Ok (done x)
-ok_by {T} {U} (Ok y) o done x h = by_fault (o y) h
-  where
-    by_fault : (f : Option Refusal) → without f y ≡ Ok x → without f (done y) ≡ Ok (done x)
-    by_fault None e = let same : y ≡ x = cc in ap (λ z. Ok (done z)) same
-    by_fault (Some fault) e = cc
-ok_by (Err e) o done x h = cc
-
-err_by : {T U : Type 0} (r : Result T Refusal) (o : T → Option Refusal) (done : T → U) (refusal : Refusal) → and_then r (λ y. without (o y) y) ≡ Err refusal → and_then r (λ y. without (o y) (done y)) ≡ Err refusal
-err_by {T} {U} (Ok y) o done refusal h = by_fault (o y) h
-  where
-    by_fault : (f : Option Refusal) → without f y ≡ Err refusal → without f (done y) ≡ Err refusal
-    by_fault None e = cc
-    by_fault (Some fault) e = let same : fault ≡ refusal = cc in ap Err same
-err_by (Err e) o done refusal h = let same : e ≡ refusal = cc in ap Err same
-
 made_by : {T : Type 0} (f : Cause → Refusal) (r : Result T Cause) (o : T → Option Refusal) (x : T) → and_then (map_fault f r) (λ y. without (o y) y) ≡ Ok x → r ≡ Ok x
-made_by {T} f (Ok y) o x h = by_fault (o y) h
-  where
-    by_fault : (f : Option Refusal) → without f y ≡ Ok x → ◌≡◌ {A = Result T Cause} (Ok y) (Ok x)
-    by_fault None e = let same : y ≡ x = cc in ap Ok same
-    by_fault (Some fault) e = cc
-made_by f (Err e) o x h = cc
+made_by f r o x h =
+    let step = and_then_ok (map_fault f r) (λ y. without (o y) y) x h in
+    map_fault_ok f r step.0 step.1 ∙ ap Ok (without_ok (o step.0) step.0 x step.2).1
 
 abbrev refused_as : State → Shared → List Kept → List Change → Option Refusal
 refused_as s both rows all = option_map (refused_batch (name_of both.new)) (cause_together (filling_site s both) job.Fill rows all)
@@ -88,7 +37,7 @@ taken s number n both rows is e ascend =
     ap (λ (o : Option Shared). option_map_or {U = CommandOutcome} (λ pair. batch s pair (rows_at (take n (missing_keys s number)) (rows_of s number))) o (Ok (answered s Filled))) is
     ∙ ap (λ keys. batch s both (rows_at (take n keys) (rows_of s number))) keys
     ∙ ap (λ rows. batch s both (rows_at (take n (keys_missing rows)) rows)) e
-    ∙ ap (batch s both) (first_missing n rows ascend)
+    ∙ ap (batch s both) (first_rows is_missing n rows ascend)
 
 -- ---- where nothing changes
 
@@ -106,25 +55,6 @@ none_filled frame old outcome runs e = unchanged frame old outcome (Ok Filled) o
 
 -- ---- where rows are filled
 
-pub record FillingHolds : Type 0 where
-  pub writing : WritingHolds
-  pub filling : FillingStands
-  pub removed : RemovedIsLeftOut
-
-suits_meant : (frame : State) (tables : List StoredTable) (number : ℕ) (form : Form) → FormSuits frame number form → FormSuits (meant frame tables) number form
-suits_meant frame tables number Own h = h
-suits_meant frame tables number (Paired pair) h = record { both = h.both; shares = h.shares; over = h.over; is_pair = h.is_pair }
-suits_meant frame tables number (Left pair) h = record { calm = h.calm; is_pair = h.is_pair; shape = h.shape }
-suits_meant frame tables number (Trimmed pair) h = record { calm = h.calm; is_pair = h.is_pair; shape = h.shape }
-
-same_forms : (tables : List StoredTable) (at : ℕ) (table new : StoredTable) → slice_get tables at ≡ Some table → new.number ≡ table.number → new.form ≡ table.form → SameForms tables (slice_set tables at new)
-same_forms [] at table new e n f = cc
-same_forms (first ∷ tables) zero table new e n f =
-    let same = some_same first table e in
-    let here : ◌≡◌ {A = ℕ × Form} (new.number, new.form) (first.number, first.form) = ap (λ k. (k, new.form)) (n ∙ ap (λ (t : StoredTable). t.number) (sym same)) ∙ ap (λ f. (first.number, f)) (f ∙ ap (λ (t : StoredTable). t.form) (sym same)) in
-    ap (λ p. p ∷ map {B = ℕ × Form} (λ table. (table.number, table.form)) tables) here
-same_forms (first ∷ tables) (suc at) table new e n f = ap (λ ps. (first.number, first.form) ∷ ps) (same_forms tables at table new e n f)
-
 -- The table at a place, which both versions have.
 pub record Filling (frame : State) (tables : List OwnTable) (at : ℕ) : Type 0 where
   pub table : OwnTable
@@ -132,7 +62,7 @@ pub record Filling (frame : State) (tables : List OwnTable) (at : ℕ) : Type 0 
   pub here : slice_get tables at ≡ Some table
   pub shares : shared frame table.number ≡ Some both
 
-stores : FillingHolds → (frame : State) (tables : List OwnTable) (at n : ℕ) (f : Filling frame tables at) → Runs frame (map seen tables) → (all : List Change) → changes (filling_site frame f.both) job.Fill (take n (filter is_missing (rows_meant (seen f.table)))) ≡ Ok all → Each (Stores f.table.form f.table.rows.rows) all
+stores : Below → (frame : State) (tables : List OwnTable) (at n : ℕ) (f : Filling frame tables at) → Runs frame (map seen tables) → (all : List Change) → changes (filling_site frame f.both) job.Fill (take n (filter is_missing (rows_meant (seen f.table)))) ≡ Ok all → Each (Stores f.table.form f.table.rows.rows) all
 stores law frame tables at n f runs all e =
     let s = meant frame (map seen tables) in
     let form = f.table.form in
@@ -142,66 +72,58 @@ stores law frame tables at n f runs all e =
     let got = got_mapped seen tables at f.table f.here in
     let suits = subst (λ k. FormSuits s k form) (sym there.0) (suits_meant frame (map seen tables) f.table.number form (all_at (λ table. FormSuits frame table.number table.form) (map seen tables) at (seen f.table) runs.forms got)) in
     let stored = all_at RowsStored (map seen tables) at (seen f.table) runs.rows got in
-    let read = rows_of-read frame (map seen tables) at f.table.number (seen f.table) runs.stands (record { here = got; numbered = refl }) in
+    let read = rows_of-read law frame (map seen tables) at f.table.number (seen f.table) runs.stands (record { here = got; numbered = refl }) in
     let is = ap (rows_of s) there.0 ∙ read in
     let some : (P : Kept → Type 0) → Each P (map (kept form) rows) → Each P (take n (filter is_missing (map (kept form) rows))) = λ P h. each_taken P n (filter is_missing (map (kept form) rows)) (each_left P is_missing (map (kept form) rows) h) in
-    job_stores law.writing s found runs.stands there.1 form f.table.rows.rows suits job.Fill refl tt (take n (filter is_missing (map (kept form) rows)))
-    (some (SiteRow (λ lost. Unit {0}) (site_of s found)) (stored_sites law.writing.rows law.writing.on_site s found runs.stands there.1 (map (kept form) rows) is))
-    (λ both h. some (λ row. HalvesAgree both.lens row.halves) (stored_agree law.writing.storing.long s (number_of f.both.new) form suits rows both h))
+    job_stores law s found runs.stands there.1 form f.table.rows.rows suits job.Fill refl tt (take n (filter is_missing (map (kept form) rows)))
+    (some (SiteRow (λ lost. Unit {0}) (site_of s found)) (stored_sites law.rows law.on_site s found runs.stands there.1 (map (kept form) rows) is))
+    (λ both h. some (λ row. HalvesAgree both.lens row.halves) (stored_agree law.long s (number_of f.both.new) form suits rows both h))
     (Weighs form f.table.rows.rows) (some (λ row. Weighs form f.table.rows.rows row.key row.lost) (older_weigh form f.table.rows.rows stored)) all e (placed_weigh form f.table.rows.rows (site_of s found) all)
 
-pub filled : FillingHolds → (frame : State) (tables : List OwnTable) (at n : ℕ) (f : Filling frame tables at) → Runs frame (map seen tables) → (result : Result Reply (Stop Reply)) (new : List StoredTable) → FillsThrough (filling_site frame f.both) job.Fill at n tables result new → Fills frame (map seen tables) (batch_at frame (map seen tables) (Some at) n) result new
+pub filled : Below → (frame : State) (tables : List OwnTable) (at n : ℕ) (f : Filling frame tables at) → Runs frame (map seen tables) → (result : Result Reply (Stop Reply)) (new : List StoredTable) → FillsThrough (filling_site frame f.both) job.Fill at n tables result new → Fills frame (map seen tables) (batch_at frame (map seen tables) (Some at) n) result new
 filled law frame tables at n f runs result new h = by_result result h
   where
-    got : slice_get (map seen tables) at ≡ Some (seen f.table)
-    got = got_mapped seen tables at f.table f.here
+    s : State
+    s = meant frame (map seen tables)
 
-    read : IsRead (map seen tables) at f.table.number (seen f.table)
-    read = record { here = got; numbered = refl }
+    site : Site
+    site = filling_site frame f.both
 
-    rows_are : rows_of (meant frame (map seen tables)) f.table.number ≡ rows_meant (seen f.table)
-    rows_are = rows_of-read frame (map seen tables) at f.table.number (seen f.table) runs.stands read
+    rows : List Kept
+    rows = rows_meant (seen f.table)
 
-    numbered : number_of f.both.new ≡ f.table.number
-    numbered = (law.filling (meant frame (map seen tables)) f.table.number f.both runs.stands f.shares).0
+    read : IsRead (map seen tables) at (number_of f.both.new) (seen f.table)
+    read = record { here = got_mapped seen tables at f.table f.here; numbered = sym (law.filling s f.table.number f.both runs.stands f.shares).0 }
 
-    rows_there : rows_of (meant frame (map seen tables)) (number_of f.both.new) ≡ rows_meant (seen f.table)
-    rows_there = ap (rows_of (meant frame (map seen tables))) numbered ∙ rows_are
+    there : rows_of s (number_of f.both.new) ≡ rows
+    there = rows_of-read law frame (map seen tables) at (number_of f.both.new) (seen f.table) runs.stands read
 
-    is : batch_at frame (map seen tables) (Some at) n ≡ and_then (made (meant frame (map seen tables)) f.both n (rows_meant (seen f.table))) (λ all. without (refused_as (meant frame (map seen tables)) f.both (rows_meant (seen f.table)) all) (changed_by (meant frame (map seen tables)) (filling_site frame f.both) job.Fill all))
-    is = ap (least_batch (meant frame (map seen tables)) n) (ap (option_map (λ (table : StoredTable). table.number)) got)
-        ∙ taken (meant frame (map seen tables)) f.table.number n f.both (rows_meant (seen f.table)) f.shares rows_are (subst Ascends rows_are (law.writing.rows (meant frame (map seen tables)) f.table.number runs.stands).0)
-        ∙ batch_over (meant frame (map seen tables)) f.both n (rows_meant (seen f.table)) rows_there
+    is : batch_at frame (map seen tables) (Some at) n ≡ and_then (made s f.both n rows) (λ all. without (refused_as s f.both rows all) (changed_by s site job.Fill all))
+    is =
+        let own = ap (rows_of s) read.numbered ∙ there in
+        ap (least_batch s n) (ap (option_map (λ (table : StoredTable). table.number)) read.here)
+        ∙ taken s f.table.number n f.both rows f.shares own (subst Ascends own (law.rows s f.table.number runs.stands).0) ∙ batch_over s f.both n rows there
 
-    at_table : (r : Result (List Change) Refusal) → changes_at (filling_site frame f.both) job.Fill at n tables ≡ Some r → batch_changes (filling_site frame f.both) job.Fill (rows_meant (seen f.table)) n ≡ r
-    at_table r e = some_same (batch_changes (filling_site frame f.both) job.Fill (rows_meant (seen f.table)) n) r (ap (option_map (λ table. batch_changes (filling_site frame f.both) job.Fill (rows_meant (seen table)) n)) (sym f.here) ∙ e)
+    at_table : (r : Result (List Change) Refusal) → changes_at site job.Fill at n tables ≡ Some r → batch_changes site job.Fill rows n ≡ r
+    at_table r e = some_same (batch_changes site job.Fill rows n) r (ap (option_map (λ table. batch_changes site job.Fill (rows_meant (seen table)) n)) (sym f.here) ∙ e)
 
-    put : (reply : Reply) (all : List Change) → batch_changes (filling_site frame f.both) job.Fill (rows_meant (seen f.table)) n ≡ Ok all → reply ≡ written_reply (filling_site frame f.both) job.Fill all → new ≡ slice_set (map seen tables) at (changed all f.table) → Fills frame (map seen tables) (batch_at frame (map seen tables) (Some at) n) (Ok reply) new
+    put : (reply : Reply) (all : List Change) → batch_changes site job.Fill rows n ≡ Ok all → reply ≡ written_reply site job.Fill all → new ≡ slice_set (map seen tables) at (changed all f.table) → Fills frame (map seen tables) (batch_at frame (map seen tables) (Some at) n) (Ok reply) new
     put reply all e told now =
-        let s = meant frame (map seen tables) in
-        let site = filling_site frame f.both in
-        let rows = rows_meant (seen f.table) in
-        let done = changed_by s site job.Fill all in
         let stored = stores law frame tables at n f runs all (made_by (refused_batch (name_of f.both.new)) (changes site job.Fill (take n (filter is_missing rows))) (refused_as s f.both rows) all e) in
-        let means : table_meant (changed all f.table) ≡ (f.table.number, after_changes all rows) = ap (λ rows. (f.table.number, rows)) (changes_meant law.removed f.table.form f.table.rows.rows all stored) in
-        let set : with_rows s f.table.number (after_changes all rows) ≡ meant frame (slice_set (map seen tables) at (changed all f.table)) = with_rows-set frame (map seen tables) at f.table.number (after_changes all rows) (seen f.table) (changed all f.table) runs.stands read means in
-        let after : done.after ≡ meant frame new = ap (λ rs. with_rows s (number_of f.both.new) (after_changes all rs)) rows_there ∙ ap (λ k. with_rows s k (after_changes all rows)) numbered ∙ set ∙ ap (meant frame) (sym now) in
-        let result_is : batch_at frame (map seen tables) (Some at) n ≡ Ok done = is ∙ ok_by (made s f.both n rows) (refused_as s f.both rows) (changed_by s site job.Fill) all e in
+        let left = leaves law frame (map seen tables) at (number_of f.both.new) f.table runs read all stored in
+        let outcome = is ∙ ok_by (made s f.both n rows) (refused_as s f.both rows) (changed_by s site job.Fill) all e in
         record {
-          answers = (done, ap as_outcome result_is, told, sym after, λ leaves. let is : leaves_all (written_reply site job.Fill all) ≡ true = ap leaves_all (sym told) ∙ leaves in cc);
+          answers = (changed_by s site job.Fill all, ap as_outcome outcome, told, sym (left.after ∙ ap (meant frame) (sym now)), λ leaves. let is : leaves_all (written_reply site job.Fill all) ≡ true = ap leaves_all (sym told) ∙ leaves in cc);
           looks = λ none. let is : goes_on_filling (written_reply site job.Fill all) ≡ false = ap goes_on_filling (sym told) ∙ none in cc;
-          forms = subst (SameForms (map seen tables)) (sym now) (same_forms (map seen tables) at (seen f.table) (changed all f.table) got refl refl);
-          stored = subst (Each RowsStored) (sym now) (all_set RowsStored (map seen tables) at (changed all f.table) runs.rows (changes_stored law.removed f.table.form f.table.rows.rows all stored (all_at RowsStored (map seen tables) at (seen f.table) runs.rows got)));
+          forms = subst (SameForms (map seen tables)) (sym now) left.forms;
+          stored = subst (Each RowsStored) (sym now) left.stored;
         }
 
-    by_result : (result : Result Reply (Stop Reply)) → FillsThrough (filling_site frame f.both) job.Fill at n tables result new → Fills frame (map seen tables) (batch_at frame (map seen tables) (Some at) n) result new
+    by_result : (result : Result Reply (Stop Reply)) → FillsThrough site job.Fill at n tables result new → Fills frame (map seen tables) (batch_at frame (map seen tables) (Some at) n) result new
     by_result (Ok reply) h =
-        let now = some_same new (slice_set (map seen tables) at (changed h.0 f.table)) (h.3 ∙ ap (option_map (λ table. slice_set (map seen tables) at (changed h.0 table))) f.here) in
-        put reply h.0 (at_table (Ok h.0) h.1) h.2 now
+        put reply h.0 (at_table (Ok h.0) h.1) h.2 (some_same new (slice_set (map seen tables) at (changed h.0 f.table)) (h.3 ∙ ap (option_map (λ table. slice_set (map seen tables) at (changed h.0 table))) f.here))
     by_result (Err (Because reply)) h =
-        let s = meant frame (map seen tables) in
-        let rows = rows_meant (seen f.table) in
-        let refused : batch_at frame (map seen tables) (Some at) n ≡ Err h.0 = is ∙ err_by (made s f.both n rows) (refused_as s f.both rows) (changed_by s (filling_site frame f.both) job.Fill) h.0 (at_table (Err h.0) h.1) in
+        let refused = is ∙ err_by (made s f.both n rows) (refused_as s f.both rows) (changed_by s site job.Fill) h.0 (at_table (Err h.0) h.1) in
         unchanged frame (map seen tables) (batch_at frame (map seen tables) (Some at) n) (Err (Because reply)) new runs h.3 (ap as_outcome refused ∙ ap Err (sym h.2), h.3)
     by_result (Err NoMemory) h = unchanged frame (map seen tables) (batch_at frame (map seen tables) (Some at) n) (Err NoMemory) new runs h h
 

@@ -1,51 +1,23 @@
 -- The rows that a job puts can be stored in the form of their table.
-use Rattle.std.proofs.Common.{◌≡◌, ◌∙◌, ℕ, ℤ, List, [], ◌∷◌, Bool, true, false, ◌&&◌, Option, Some, None, is_some, cond, int_cmp, Ordering, Less, Equal, Greater, map, ap, refl, sym, subst, option_map, option_and_then}
-use Rattle.std.specs.Prelude.{T}
-use Rattle.std.specs.Cmp.{int_eq_equiv}
-use Rattle.std.specs.FinMap as finite
-use Rattle.std.specs.FinMap.{find, is_sorted}
-use Rattle.std.specs.FinMap.Entries.{below_all}
-use Rattle.std.specs.List.{AllByRecursion as Each}
-use Rattle.std.specs.Ordering.{eq_by_cmp, is_eq, is_lt}
-use Rattle.sql_base.specs.Fit.{row_fits}
-use Rattle.sql_base.specs.Laws.{some_same}
-use Rattle.sql_base.specs.declared.values.Value.{Value}
-use Rattle.mig_lens.specs.Plan.{Table, table_numbered}
-use Rattle.row_rules.specs.declared.kinds.Halves.{Halves}
-use Rattle.row_rules.specs.declared.kinds.Kept.{Kept}
-use Rattle.row_rules.specs.Site.{Beside, number_of, shape_of}
-use Rattle.row_store.specs.Stored.{Rows}
-use Rattle.machine.specs.declared.states.Mode.TheVariants.{Calm}
-use Rattle.machine.specs.declared.states.State.{State}
-use Rattle.machine.specs.Sites.{HalvesAgree, PairStands, SiteRow, TableStands, may_miss_beside, new_table_by, table_by}
-use Rattle.machine.specs.Standing.{HalfStands, NewStands}
-use Rattle.machine.specs.State.{Found, Shared, beside_on, lens_between, newer_schema, shared, site_of, table_on}
-use Rattle.machine.specs.Words.{New, Old, Side}
-use Rattle.phase_steps.specs.Laws.{FilledBefore}
-use Rattle.trigger_pair.specs.declared.pairs.Pair.{Pair}
-use Rattle.roll_core.specs.declared.forms.Form.{Form}
-use Rattle.roll_core.specs.declared.forms.Form.TheVariants.{Own, Paired, Left, Trimmed}
-use Rattle.roll_core.specs.Running.{FormSuits, LeftBy}
-use Rattle.roll_core.specs.Store.{IsStoredRow, StoredRow, kept, lost_columns_by, pair_over}
+use Rattle.roll_core.proofs.Words.{◌≡◌, ◌∙◌, ℕ, ℤ, List, [], ◌∷◌, Bool, true, false, Option, Some, None, is_some, cond, int_cmp, map, ap, refl, sym, subst, option_map, option_and_then, T}
+use Rattle.roll_core.proofs.Words.{int_eq_equiv, is_sorted, below_all, Each, eq_by_cmp, is_eq, is_lt, some_same, Value, Table, table_numbered, Halves, Kept, Beside, number_of, shape_of, Rows, Calm}
+use Rattle.roll_core.proofs.Words.{State, HalvesAgree, PairStands, SiteRow, TableStands, may_miss_beside, new_table_by, table_by, HalfStands, NewStands, Found, Shared, beside_on, lens_between}
+use Rattle.roll_core.proofs.Words.{newer_schema, shared, site_of, table_on, New, Old, Side, FilledBefore, Pair, Form, Own, Paired, Left, Trimmed, FormSuits, LeftBy, IsStoredRow, StoredRow, kept}
+use Rattle.roll_core.proofs.Words.{lost_columns_by, pair_over}
+use Rattle.roll_core.proofs.Words.finite
+use Rattle.std.specs.FinMap.{find}
 use Rattle.roll_core.proofs.Made.{HasNew}
+use Rattle.roll_core.proofs.Runs.{no_lens, shared_of}
+use Rattle.roll_core.proofs.Stepped.{is_less, split}
 use Rattle.roll_core.proofs.Storing.{AloneFits, FormStands, Storable, Together, lost_over}
 
 -- ---- what is stored under a key
-
-split : (a b : Bool) → T (a && b) → T a × T b
-split true b h = (tt, h)
-split false b h = absurd h
-
-less_differs : (o : Ordering) → T (is_lt o) → is_eq o ≡ false
-less_differs Less h = refl
-less_differs Equal h = absurd h
-less_differs Greater h = absurd h
 
 behind_found : (first : StoredRow) (all rows : List StoredRow) → T (below_all int_cmp first.0 rows) → Each (λ row. find int_cmp row.0 all ≡ Some row.1) rows → Each (λ row. find int_cmp row.0 (first ∷ all) ≡ Some row.1) rows
 behind_found first all [] b h = tt
 behind_found first all (row ∷ rows) b h =
     let parts = split (is_lt (int_cmp first.0 row.0)) (below_all int_cmp first.0 rows) b in
-    let differs : eq_by_cmp int_cmp row.0 first.0 ≡ false = int_eq_equiv.symm row.0 first.0 ∙ less_differs (int_cmp first.0 row.0) parts.0 in
+    let differs : eq_by_cmp int_cmp row.0 first.0 ≡ false = int_eq_equiv.symm row.0 first.0 ∙ ap is_eq (is_less (int_cmp first.0 row.0) parts.0) in
     (ap (λ test. cond test (Some first.1) (find int_cmp row.0 all)) differs ∙ h.0, behind_found first all rows parts.1 h.1)
 
 pub sorted_found : (rows : List StoredRow) → T (is_sorted int_cmp rows) → Each (λ row. find int_cmp row.0 rows ≡ Some row.1) rows
@@ -88,26 +60,17 @@ older_weigh form rows s = rows_weigh form rows (finite.entries rows) (sorted_fou
 
 -- ---- the halves of one version
 
-record AloneHas (here : Table) (row : Kept) : Type 0 where
-  values : List Value
-  halves : row.halves ≡ record { old = Some values; new = None }
-  fits : row_fits (shape_of here) values ≡ true
-
 halves_are : (halves : Halves) (old new : Option (List Value)) → halves.old ≡ old → halves.new ≡ new → halves ≡ record { old = old; new = new }
 halves_are halves old new o n = λ i. record { old = o i; new = n i }
 
-none_new : (key : ℤ) (new : Option (List Value)) → HalfStands None key new → new ≡ None
-none_new key None h = refl
-none_new key (Some values) h = absurd h
+alone_has : (here : Table) (row : Kept) → HalfStands (Some here) row.key row.halves.old → HalfStands None row.key row.halves.new → AloneFits (shape_of here) row
+alone_has here row o n =
+    elim row.halves.old as (λ old. row.halves.old ≡ old → HalfStands (Some here) row.key old → AloneFits (shape_of here) row) [
+      | None ↦ λ e h. absurd h
+      | Some values ↦ λ e h. record { values = values; halves = halves_are row.halves (Some values) None e (elim row.halves.new as (λ new. HalfStands None row.key new → new ≡ None) [ None ↦ λ h. refl | Some values ↦ λ h. absurd h ] n); fits = h.0 }
+    ] refl o
 
-alone_has : (here : Table) (row : Kept) → HalfStands (Some here) row.key row.halves.old → HalfStands None row.key row.halves.new → AloneHas here row
-alone_has here row o n = by_old row.halves.old refl o
-  where
-    by_old : (old : Option (List Value)) → row.halves.old ≡ old → HalfStands (Some here) row.key old → AloneHas here row
-    by_old None e h = absurd h
-    by_old (Some values) e h = record { values = values; halves = halves_are row.halves (Some values) None e (none_new row.key row.halves.new n); fits = h.0 }
-
-alone_site : (side : Side) (here : Table) (there : Option Beside) (row : Kept) → side ≡ Old → there ≡ None → HalfStands (table_by side here there) row.key row.halves.old → NewStands (may_miss_beside there) (new_table_by side here there) row.key row.halves.new → AloneHas here row
+alone_site : (side : Side) (here : Table) (there : Option Beside) (row : Kept) → side ≡ Old → there ≡ None → HalfStands (table_by side here there) row.key row.halves.old → NewStands (may_miss_beside there) (new_table_by side here there) row.key row.halves.new → AloneFits (shape_of here) row
 alone_site Old here None row s t o n = alone_has here row o n
 alone_site Old here (Some beside) row s t o n = cc
 alone_site New here there row s t o n = cc
@@ -119,13 +82,9 @@ calm_side s m Old number table e = refl
 calm_side s m New number table e = let none : table_on s New number ≡ None = ap (λ mode. option_and_then (λ schema. table_numbered schema number) (newer_schema mode)) m in cc
 
 pub calm_shared : (s : State) (number : ℕ) → s.mode ≡ Calm → shared s number ≡ None
-calm_shared s number m = ap (λ mode. option_and_then (λ old. option_and_then (λ new. option_map {U = Shared} (λ lens. record { old = old; new = new; lens = lens }) (lens_between mode number)) (option_and_then (λ schema. table_numbered schema number) (newer_schema mode))) (table_on s Old number)) m ∙ by_table (table_on s Old number)
-  where
-    by_table : (o : Option Table) → option_and_then {U = Shared} (λ (old : Table). None) o ≡ None
-    by_table None = refl
-    by_table (Some old) = refl
+calm_shared s number m = ap (λ mode. shared_of (lens_between mode number) (option_and_then (λ schema. table_numbered schema number) (newer_schema mode)) (table_on s Old number)) m ∙ no_lens None (table_on s Old number)
 
-calm_has : (s : State) (found : Found) → s.mode ≡ Calm → TableStands s found → (row : Kept) → SiteRow (λ lost. Unit {0}) (site_of s found) row → AloneHas found.table row
+calm_has : (s : State) (found : Found) → s.mode ≡ Calm → TableStands s found → (row : Kept) → SiteRow (λ lost. Unit {0}) (site_of s found) row → AloneFits (shape_of found.table) row
 calm_has s found m stands row r =
     let number = number_of found.table in
     let none = ap (option_map (beside_on found.side)) (calm_shared s number m) in
@@ -141,9 +100,9 @@ both_site : (side : Side) (here : Table) (both : Shared) (row : Kept) → (side 
 both_site Old here both row o n ho hn = record { old = subst (λ (t : Table). HalfStands (Some t) row.key row.halves.old) (sym (o refl)) ho; new = hn }
 both_site New here both row o n ho hn = record { old = ho; new = subst (λ (t : Table). NewStands (may_miss_beside (Some (beside_on New both))) (Some t) row.key row.halves.new) (sym (n refl)) hn }
 
-new_stands : (may : Bool) (table : Table) (key : ℤ) (values : List Value) → NewStands may (Some table) key (Some values) → row_fits (shape_of table) values ≡ true
-new_stands true table key values h = h.0
-new_stands false table key values h = h.0
+pub new_stands : (may : Bool) (table : Table) (key : ℤ) (values : List Value) → NewStands may (Some table) key (Some values) → HalfStands (Some table) key (Some values)
+new_stands true table key values h = h
+new_stands false table key values h = h
 
 together : (both : Shared) (row : Kept) → BothHave both row → is_some row.halves.new ≡ true → HalvesAgree both.lens row.halves → Together (pair_over both) row
 together both row h some agree = by_halves row.halves.old row.halves.new refl refl h.old h.new some
@@ -156,7 +115,7 @@ together both row h some agree = by_halves row.halves.old row.halves.new refl re
       new = new;
       halves = halves_are row.halves (Some old) (Some new) eo en;
       old_fits = ho.0;
-      new_fits = new_stands (may_miss_beside (Some (beside_on Old both))) both.new row.key new hn;
+      new_fits = (new_stands (may_miss_beside (Some (beside_on Old both))) both.new row.key new hn).0;
       agree = λ i at c. agree old new i at eo en c;
     }
 
@@ -172,10 +131,6 @@ both_has s found both is p stands row r =
 
 -- ---- any form
 
--- What the form's pair is to the halves: where both versions have the table, these agree.
-abbrev pub AgreesIn : State → ℕ → Kept → Type 0
-AgreesIn s number row = (both : Shared) → shared s number ≡ Some both → HalvesAgree both.lens row.halves
-
 new_there : (there : Option Beside) (beside : Beside) (halves : Halves) → there ≡ Some beside → HasNew there halves → is_some halves.new ≡ true
 new_there None beside halves e h = cc
 new_there (Some b) beside halves e h = h
@@ -186,15 +141,13 @@ form_stands s number (Paired pair) f = f.is_pair
 form_stands s number (Left pair) f = f.is_pair
 form_stands s number (Trimmed pair) f = f.is_pair
 
-left_fits : (s : State) (found : Found) (pair : Pair) → LeftBy s (number_of found.table) pair → TableStands s found → (row : Kept) → SiteRow (λ lost. Unit {0}) (site_of s found) row → AloneFits pair row
+left_fits : (s : State) (found : Found) (pair : Pair) → LeftBy s (number_of found.table) pair → TableStands s found → (row : Kept) → SiteRow (λ lost. Unit {0}) (site_of s found) row → AloneFits pair.new row
 left_fits s found pair f stands row r =
-    let number = number_of found.table in
-    let has = calm_has s found f.calm stands row r in
-    let old = subst (λ side. table_on s side number ≡ Some found.table) (calm_side s f.calm found.side number found.table stands.on_side) stands.on_side in
-    record { values = has.values; halves = has.halves; fits = subst (λ shape. row_fits shape has.values ≡ true) (sym (f.shape found.table old)) has.fits }
+    let old = subst (λ side. table_on s side (number_of found.table) ≡ Some found.table) (calm_side s f.calm found.side (number_of found.table) found.table stands.on_side) stands.on_side in
+    subst (λ shape. AloneFits shape row) (sym (f.shape found.table old)) (calm_has s found f.calm stands row r)
 
 pub storable : (s : State) (found : Found) → TableStands s found → ((both : Shared) → shared s (number_of found.table) ≡ Some both → PairStands s (number_of found.table) both) → (form : Form) (before : Option (List Value)) (row : Kept) → FormSuits s (number_of found.table) form
-    → SiteRow (λ lost. Unit {0}) (site_of s found) row → HasNew (site_of s found).there row.halves → AgreesIn s (number_of found.table) row → WeighsOver form before row.lost → Storable form before row
+    → SiteRow (λ lost. Unit {0}) (site_of s found) row → HasNew (site_of s found).there row.halves → ((both : Shared) → shared s (number_of found.table) ≡ Some both → HalvesAgree both.lens row.halves) → WeighsOver form before row.lost → Storable form before row
 storable s found stands pairs Own before row f r h a w = let has = calm_has s found f stands row r in (record { values = has.values; halves = has.halves }, w)
 storable s found stands pairs (Paired pair) before row f r h a w =
     let both = f.both in

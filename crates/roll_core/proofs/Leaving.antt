@@ -1,73 +1,25 @@
 -- The first step of completing leaves stored rows that mean what the machine leaves.
-use Rattle.std.proofs.Common.{arith, ◌≡◌, ◌∙◌, ℕ, zero, suc, ℤ, List, [], ◌∷◌, ◌++◌, take, drop, Bool, true, false, ◌||◌, ◌==◌, Option, Some, None, Ok, Err, inl, inr, ◌⊎◌, find, is_none, is_some, nat_eq, nat_lt, map, filter, cond, ap, refl, sym, subst, length, option_map, option_and_then, if◌then◌else◌}
-use Rattle.std.specs.Prelude.{slice_get}
-use Rattle.std.specs.List.{AllByRecursion, cons_option, filter_map, list_any}
-use Rattle.std.specs.Option.{option_map_or, option_or}
-use Rattle.std.proofs.lemmas.Bool.Decides.{nat_tests}
-use Rattle.sql_base.specs.Laws.{either_none, some_same}
-use Rattle.sql_base.specs.declared.shapes.Schema.{Schema}
-use Rattle.sql_base.specs.declared.values.Value.{Value}
-use Rattle.sql_eval.specs.Row.{least}
-use Rattle.mig_lens.specs.declared.columns.Lens.{Lens}
-use Rattle.mig_lens.specs.declared.faults.Kind.{Kind}
-use Rattle.mig_lens.specs.declared.faults.Kind.TheVariants as kind
-use Rattle.mig_lens.specs.declared.faults.Refusal.{Refusal}
-use Rattle.mig_lens.specs.declared.faults.Refusal.TheVariants.{NotFilled, Unfinished}
-use Rattle.mig_lens.specs.declared.plans.Fate.{Fate}
-use Rattle.mig_lens.specs.Plan.{table_numbered}
-use Rattle.row_rules.specs.declared.kinds.Kept.{Kept}
-use Rattle.row_rules.specs.Outcome.{first_some, without}
+use Rattle.roll_core.proofs.Words.{ℤ, nat_eq, list_any, Each, Below, ◌||◌, meaning, arith, ◌≡◌, ◌∙◌, ℕ, List, [], ◌∷◌, Bool, true, false, ◌==◌, Option, Some, None, Ok, Err, inl, inr, find, is_some}
+use Rattle.roll_core.proofs.Words.{nat_lt, map, ap, refl, sym, subst, option_map, option_and_then, if◌then◌else◌, slice_get, AllByRecursion, cons_option, filter_map, option_map_or, option_or}
+use Rattle.roll_core.proofs.Words.{nat_tests, either_none, Schema, Value, least, Lens, Kind, Refusal, NotFilled, Unfinished, Fate, Kept, first_some, without, name_of, invalid_cause, Mode, Calm, Both}
+use Rattle.roll_core.proofs.Words.{State, complete, completed, completed_row, finish, lost_columns_in, lost_in_table, not_valid, stepped, tidied, CommandOutcome, Complete, IsState, ModeStands}
+use Rattle.roll_core.proofs.Words.{NewerStands, Shared, lens_among, rows_of, shared, table_on, New, Pair, IsPair, UnfilledRowsAreBegun, IsFilledRow, IsPairedRow, is_marked, new_view, old_view, Paired}
+use Rattle.roll_core.proofs.Words.{Left, Former, meant, numbers_in, AreKept, Goes, former_by, former_of, invalid_in, left_by, left_form, left_frame, left_parts, left_table, lost_by, lost_columns}
+use Rattle.roll_core.proofs.Words.{may_not_complete, not_filled_in, IsStored, IsStoredRow, IsStoredTable, Stored, StoredRow, StoredTable, kept, lost_columns_by, over_pair, pair_over, rows_meant}
+use Rattle.roll_core.proofs.Words.{table_meant}
+use Rattle.roll_core.proofs.Words.kind
+use Rattle.roll_core.proofs.Words.migrate
 use Rattle.row_rules.specs.Rows.{missing_keys}
-use Rattle.row_rules.specs.Site.{name_of}
-use Rattle.row_rules.specs.Steps.{invalid_cause}
-use Rattle.machine.specs.declared.states.Mode.{Mode}
-use Rattle.machine.specs.declared.states.Mode.TheVariants.{Calm, Both}
-use Rattle.machine.specs.declared.states.State.{State}
-use Rattle.machine.specs.Migrate as migrate
-use Rattle.machine.specs.Migrate.{complete, completed, completed_row, completed_tables, finish, lost_columns_in, lost_in_table, not_valid, numbers_of, stepped, tidied}
-use Rattle.machine.specs.Done.{CommandOutcome}
-use Rattle.machine.specs.declared.events.Reply.TheVariants.{Complete}
-use Rattle.machine.specs.Standing.{IsState, ModeStands, NewerStands}
-use Rattle.machine.specs.State.{Shared, lens_among, lens_between, newer_schema, rows_of, shared, table_on}
-use Rattle.machine.specs.Words.{New}
-use Rattle.trigger_pair.specs.declared.pairs.Pair.{Pair}
-use Rattle.trigger_pair.specs.Laws.{IsPair, UnfilledRowsAreBegun}
-use Rattle.trigger_pair.specs.Rows.{IsFilledRow, IsPairedRow}
-use Rattle.trigger_pair.specs.Stored.{is_marked, new_view, old_view}
-use Rattle.roll_core.specs.declared.forms.Form.TheVariants.{Paired, Left}
-use Rattle.roll_core.specs.declared.store.Former.{Former}
-use Rattle.roll_core.specs.Running.{meant, numbers_in}
-use Rattle.roll_core.specs.Stepping.{AreKept, Goes, former_by, former_of, invalid_in, left_by, left_form, left_frame, left_parts, left_table, lost_by, lost_columns, may_not_complete, not_filled_in}
-use Rattle.roll_core.specs.Store.{IsStored, IsStoredRow, IsStoredTable, Stored, StoredRow, StoredTable, form_in, kept, lost_columns_by, over_pair, pair_over, rows_meant, table_meant}
-use Rattle.roll_core.proofs.Pairing.{joined_both, joined_pair, shared_in, shared_of, shared_parts}
-use Rattle.roll_core.proofs.Tidying.{same_parts}
-use Rattle.roll_core.proofs.Tables.{all_at, numbers_of-meant, rows_of-read}
-
--- ---- of each table
-
--- What holds of the one at each place holds of each.
-each_place : {X : Type 0} (P : X → Type 0) (xs : List X) → ((at : ℕ) (x : X) → slice_get xs at ≡ Some x → P x) → AllByRecursion P xs
-each_place P [] h = tt
-each_place P (x ∷ xs) h = (h 0 x refl, each_place P xs (λ at y e. h (suc at) y e))
-
-own_number : (tables : List StoredTable) (at : ℕ) (table : StoredTable) → slice_get tables at ≡ Some table → list_any (nat_eq table.number) (numbers_in tables) ≡ true
-own_number [] at table e = cc
-own_number (first ∷ tables) zero table e = let same : first ≡ table = some_same first table e in let is : first.number ≡ table.number = ap (λ (t : StoredTable). t.number) same in grind (arith, nat_tests)
-own_number (first ∷ tables) (suc at) table e = later (nat_eq table.number first.number) (own_number tables at table e)
-  where
-    later : (b : Bool) → list_any (nat_eq table.number) (numbers_in tables) ≡ true → (b || list_any (nat_eq table.number) (numbers_in tables)) ≡ true
-    later true h = refl
-    later false h = h
+use Rattle.roll_core.proofs.Runs.{BothHave, both_have}
+use Rattle.roll_core.proofs.Tables.{all_at, each_place, got_mapped, numbers_of-meant, own_number, rows_of-read}
 
 -- ---- why it may not be completed
 
 filled_same : (frame : State) (all : List StoredTable) (table : StoredTable) → rows_of (meant frame all) table.number ≡ rows_meant table → migrate.not_filled_in (meant frame all) table.number ≡ not_filled_in frame table
-filled_same frame all table r = by_shared (shared frame table.number)
-  where
-    by_shared : (both : Option Shared) → option_and_then {U = Refusal} (λ pair. option_map (λ key. NotFilled (name_of pair.new) key) (least (option_map_or (λ pair. missing_keys (rows_of (meant frame all) table.number)) both []))) both
-        ≡ option_and_then (λ both. option_map (λ key. NotFilled (name_of both.new) key) (least (missing_keys (rows_meant table)))) both
-    by_shared None = refl
-    by_shared (Some both) = ap (λ (rows : List Kept). option_map (λ key. NotFilled (name_of both.new) key) (least (missing_keys rows))) r
+filled_same frame all table r =
+    let least_of = λ (both : Shared) (keys : List ℤ). option_map {U = Refusal} (λ key. NotFilled (name_of both.new) key) (least keys) in
+    elim (shared frame table.number) as (λ both. option_and_then {U = Refusal} (λ pair. least_of pair (option_map_or (λ pair. missing_keys (rows_of (meant frame all) table.number)) both [])) both
+    ≡ option_and_then (λ both. least_of both (missing_keys (rows_meant table))) both) [ None ↦ refl | Some both ↦ ap (λ (rows : List Kept). least_of both (missing_keys rows)) r ]
 
 valid_same : (frame : State) (all : List StoredTable) (table : StoredTable) → rows_of (meant frame all) table.number ≡ rows_meant table → migrate.invalid_in (meant frame all) table.number ≡ invalid_in frame table
 valid_same frame all table r = ap (λ (rows : List Kept). option_and_then (λ newer. invalid_cause newer rows) (table_on frame New table.number)) r
@@ -76,8 +28,8 @@ valid_same frame all table r = ap (λ (rows : List Kept). option_and_then (λ ne
 abbrev RowsAre : State → List StoredTable → List StoredTable → Type 0
 RowsAre frame all tables = AllByRecursion (λ table. rows_of (meant frame all) table.number ≡ rows_meant table) tables
 
-rows_are : (frame : State) (all : List StoredTable) → IsState (meant frame all) → RowsAre frame all all
-rows_are frame all stands = each_place (λ table. rows_of (meant frame all) table.number ≡ rows_meant table) all (λ at table e. rows_of-read frame all at table.number table stands (record { here = e; numbered = refl }))
+rows_are : Below → (frame : State) (all : List StoredTable) → IsState (meant frame all) → RowsAre frame all all
+rows_are law frame all stands = each_place (λ table. rows_of (meant frame all) table.number ≡ rows_meant table) all (λ at table e. rows_of-read law frame all at table.number table stands (record { here = e; numbered = refl }))
 
 filled_all : (frame : State) (all tables : List StoredTable) → RowsAre frame all tables → migrate.not_filled (meant frame all) (numbers_in tables) ≡ first_some (not_filled_in frame) tables
 filled_all frame all [] h = refl
@@ -88,29 +40,22 @@ valid_all frame all [] h = refl
 valid_all frame all (table ∷ tables) h = ap (λ o. option_or o (migrate.invalid (meant frame all) (numbers_in tables))) (valid_same frame all table h.0) ∙ ap (option_or (invalid_in frame table)) (valid_all frame all tables h.1)
 
 -- What is looked at in place is what the machine looks at.
-pub may_same : (frame : State) (tables : List StoredTable) → IsState (meant frame tables) → migrate.may_not_complete (meant frame tables) ≡ may_not_complete frame tables
-may_same frame tables stands =
+pub may_same : Below → (frame : State) (tables : List StoredTable) → IsState (meant frame tables) → migrate.may_not_complete (meant frame tables) ≡ may_not_complete frame tables
+may_same law frame tables stands =
     let s = meant frame tables in
-    let rows = rows_are frame tables stands in
+    let rows = rows_are law frame tables stands in
     ap (λ ns. option_or (migrate.not_filled s ns) (option_map not_valid (migrate.invalid s ns))) (numbers_of-meant frame tables)
     ∙ ap (λ o. option_or o (option_map not_valid (migrate.invalid s (numbers_in tables)))) (filled_all frame tables tables rows)
     ∙ ap (λ o. option_or (first_some (not_filled_in frame) tables) (option_map not_valid o)) (valid_all frame tables tables rows)
 
 -- ---- nothing is left to be filled
 
-no_least : (keys : List ℤ) → least keys ≡ None → keys ≡ []
-no_least [] h = refl
-no_least (key ∷ keys) h = cc
-
-unmarked : (pair : Pair) (rows : List StoredRow) → missing_keys (map (kept (Paired pair)) rows) ≡ [] → AllByRecursion (λ row. is_marked pair row.1 ≡ false) rows
+-- A row that has its new half isn't marked.
+unmarked : (pair : Pair) (rows : List StoredRow) → Each (λ row. is_some row.halves.new ≡ true) (map (kept (Paired pair)) rows) → Each (λ row. is_marked pair row.1 ≡ false) rows
 unmarked pair [] h = tt
-unmarked pair (row ∷ rows) h = by_mark (unmarked pair rows) (is_marked pair row.1) refl h
-  where
-    by_mark : (missing_keys (map (kept (Paired pair)) rows) ≡ [] → AllByRecursion (λ row. is_marked pair row.1 ≡ false) rows) → (b : Bool) → is_marked pair row.1 ≡ b
-        → map {A = Kept} (λ row. row.key) (cond (is_none (if◌then◌else◌ {A = Option (List Value)} b None (Some (new_view pair row.1)))) (kept (Paired pair) row ∷ filter (λ row. is_none row.halves.new) (map (kept (Paired pair)) rows)) (filter (λ row. is_none row.halves.new) (map (kept (Paired pair)) rows))) ≡ []
-        → (is_marked pair row.1 ≡ false) × AllByRecursion (λ row. is_marked pair row.1 ≡ false) rows
-    by_mark there true e h = cc
-    by_mark there false e h = (e, there h)
+unmarked pair (row ∷ rows) h =
+    let here = elim (is_marked pair row.1) as (λ b. is_some (if◌then◌else◌ {A = Option (List Value)} b None (Some (new_view pair row.1))) ≡ true → b ≡ false) [ true ↦ λ h. cc | false ↦ λ h. refl ] h.0 in
+    (here, unmarked pair rows h.1)
 
 -- The new half of such a row stays, and it is a filled row.
 rows_stay : (pair : Pair) (rows : List StoredRow) → AllByRecursion (λ row. is_marked pair row.1 ≡ false) rows → map (kept (Left pair)) rows ≡ map (completed_row (Some pair.lens)) (map (kept (Paired pair)) rows)
@@ -121,11 +66,9 @@ rows_stay pair (row ∷ rows) h =
 
 rows_filled : UnfilledRowsAreBegun → (pair : Pair) (rows : List StoredRow) → IsPair pair → AllByRecursion (λ row. is_marked pair row.1 ≡ false) rows → AllByRecursion (λ row. IsPairedRow pair row.1) rows → AllByRecursion (λ row. IsFilledRow pair row.1) rows
 rows_filled law pair [] is m h = tt
-rows_filled law pair (row ∷ rows) is m h = (filled row.1 m.0 h.0, rows_filled law pair rows is m.1 h.1)
-  where
-    filled : (values : List Value) → is_marked pair values ≡ false → IsPairedRow pair values → IsFilledRow pair values
-    filled values m (inl row) = row
-    filled values m (inr row) = let yes = (law pair values is row).1 in cc
+rows_filled law pair (row ∷ rows) is m h =
+    let not : is_marked pair row.1 ≡ false = m.0 in
+    (elim h.0 as (λ _. IsFilledRow pair row.1) [ inl filled ↦ filled | inr begun ↦ let yes = (law pair row.1 is begun).1 in cc ], rows_filled law pair rows is m.1 h.1)
 
 -- ---- lost columns
 
@@ -138,130 +81,73 @@ found lost number = option_map_or (λ lost. lost.1) (find (λ lost. lost.0 == nu
 abbrev entry : ℕ → Option Lens → Option (ℕ × ℕ)
 entry number lens = option_and_then (λ lens. if nat_lt 0 (lost_columns_in lens) then Some (number, lost_columns_in lens) else None) lens
 
-none_is_zero : (n : ℕ) → nat_lt 0 n ≡ false → n ≡ 0
-none_is_zero n h = grind (arith, nat_tests)
-
-here_found : (own number : ℕ) (lens : Option Lens) (rest : List (ℕ × ℕ)) → (own == number) ≡ true → (found rest number ≡ amount lens) ⊎ (found rest number ≡ 0) → found (cons_option (entry own lens) rest) number ≡ amount lens
-here_found own number None rest e (inl h) = h
-here_found own number None rest e (inr h) = h
-here_found own number (Some lens) rest e h = by_test (nat_lt 0 (lost_columns_in lens)) refl h
+here_found : (number : ℕ) (lens : Option Lens) (rest : List (ℕ × ℕ)) (there : Bool) → found rest number ≡ (if there then amount lens else 0) → found (cons_option (entry number lens) rest) number ≡ amount lens
+here_found number None rest true h = h
+here_found number None rest false h = h
+here_found number (Some lens) rest there h = by_test (nat_lt 0 (lost_columns_in lens)) refl there h
   where
-    by_test : (b : Bool) → nat_lt 0 (lost_columns_in lens) ≡ b → (found rest number ≡ lost_columns_in lens) ⊎ (found rest number ≡ 0) → found (cons_option (if b then Some (own, lost_columns_in lens) else None) rest) number ≡ lost_columns_in lens
-    by_test true t h = ap (λ b. option_map_or {T = ℕ × ℕ} (λ lost. lost.1) (if b then Some (own, lost_columns_in lens) else find (λ lost. lost.0 == number) rest) 0) e
-    by_test false t (inl h) = h
-    by_test false t (inr h) = h ∙ sym (none_is_zero (lost_columns_in lens) t)
+    by_test : (b : Bool) → nat_lt 0 (lost_columns_in lens) ≡ b → (there : Bool) → found rest number ≡ (if there then lost_columns_in lens else 0) → found (cons_option (if b then Some (number, lost_columns_in lens) else None) rest) number ≡ lost_columns_in lens
+    by_test true t there h = let same : (number == number) ≡ true = grind (arith, nat_tests) in rw same refl
+    by_test false t true h = h
+    by_test false t false h = let zero : lost_columns_in lens ≡ 0 = grind (arith, nat_tests) in h ∙ sym zero
 
 other_found : (own number : ℕ) (lens : Option Lens) (rest : List (ℕ × ℕ)) → (own == number) ≡ false → found (cons_option (entry own lens) rest) number ≡ found rest number
 other_found own number None rest e = refl
-other_found own number (Some lens) rest e = by_test (nat_lt 0 (lost_columns_in lens))
-  where
-    by_test : (b : Bool) → found (cons_option (if b then Some (own, lost_columns_in lens) else None) rest) number ≡ found rest number
-    by_test true = ap (λ b. option_map_or {T = ℕ × ℕ} (λ lost. lost.1) (if b then Some (own, lost_columns_in lens) else find (λ lost. lost.0 == number) rest) 0) e
-    by_test false = refl
+other_found own number (Some lens) rest e =
+    elim (nat_lt 0 (lost_columns_in lens)) as (λ b. found (cons_option (if b then Some (own, lost_columns_in lens) else None) rest) number ≡ found rest number)
+    [ true ↦ ap (λ b. option_map_or {T = ℕ × ℕ} (λ lost. lost.1) (if b then Some (own, lost_columns_in lens) else find (λ lost. lost.0 == number) rest) 0) e | false ↦ refl ]
 
--- No table has this number.
-abbrev NoneHas : ℕ → List StoredTable → Type 0
-NoneHas number tables = AllByRecursion (λ table. (table.number == number) ≡ false) tables
-
-lost_found : (fates : List (ℕ × Fate)) (number : ℕ) (tables : List StoredTable) → (found (filter_map (lost_by fates) tables) number ≡ amount (lens_among fates number)) ⊎ (NoneHas number tables × (found (filter_map (lost_by fates) tables) number ≡ 0))
-lost_found fates number [] = inr (tt, refl)
-lost_found fates number (table ∷ tables) = by_test (table.number == number) refl (lost_found fates number tables)
-  where
-    rest : List (ℕ × ℕ)
-    rest = filter_map (lost_by fates) tables
-
-    step : found (filter_map (lost_by fates) (table ∷ tables)) number ≡ found (cons_option (entry table.number (lens_among fates table.number)) rest) number
-    step = refl
-
-    by_test : (b : Bool) → (table.number == number) ≡ b → (found rest number ≡ amount (lens_among fates number)) ⊎ (NoneHas number tables × (found rest number ≡ 0))
-        → (found (filter_map (lost_by fates) (table ∷ tables)) number ≡ amount (lens_among fates number)) ⊎ (NoneHas number (table ∷ tables) × (found (filter_map (lost_by fates) (table ∷ tables)) number ≡ 0))
-    by_test true e h =
-        let same : table.number ≡ number = grind (arith, nat_tests) in
-        inl (step ∙ ap (λ n. found (cons_option (entry table.number (lens_among fates n)) rest) number) same ∙ here_found table.number number (lens_among fates number) rest e (elim h [ inl h ↦ inl h | inr h ↦ inr h.1 ]))
-    by_test false e (inl h) = inl (step ∙ other_found table.number number (lens_among fates table.number) rest e ∙ h)
-    by_test false e (inr h) = inr ((e, h.0), step ∙ other_found table.number number (lens_among fates table.number) rest e ∙ h.1)
-
-lost_at : (fates : List (ℕ × Fate)) (tables : List StoredTable) (at : ℕ) (table : StoredTable) → slice_get tables at ≡ Some table → found (filter_map (lost_by fates) tables) table.number ≡ amount (lens_among fates table.number)
-lost_at fates tables at table e = by_way (lost_found fates table.number tables)
-  where
-    by_way : (found (filter_map (lost_by fates) tables) table.number ≡ amount (lens_among fates table.number)) ⊎ (NoneHas table.number tables × (found (filter_map (lost_by fates) tables) table.number ≡ 0)) → found (filter_map (lost_by fates) tables) table.number ≡ amount (lens_among fates table.number)
-    by_way (inl h) = h
-    by_way (inr h) =
-        let no = all_at (λ (t : StoredTable). (t.number == table.number) ≡ false) tables at table h.0 e in
-        let yes : (table.number == table.number) ≡ true = grind (arith, nat_tests) in cc
+lost_found : (fates : List (ℕ × Fate)) (number : ℕ) (tables : List StoredTable) → found (filter_map (lost_by fates) tables) number ≡ (if list_any (nat_eq number) (numbers_in tables) then amount (lens_among fates number) else 0)
+lost_found fates number [] = refl
+lost_found fates number (table ∷ tables) =
+    let rest = filter_map (lost_by fates) tables in
+    let there = list_any (nat_eq number) (numbers_in tables) in
+    let more = lost_found fates number tables in
+    elim (nat_eq number table.number) as (λ b. nat_eq number table.number ≡ b → found (cons_option (entry table.number (lens_among fates table.number)) rest) number ≡ (if b || there then amount (lens_among fates number) else 0)) [
+      | true ↦ λ e.
+          let same : number ≡ table.number = grind (arith, nat_tests) in
+          subst (λ own. found (cons_option (entry own (lens_among fates own)) rest) number ≡ amount (lens_among fates number)) same (here_found number (lens_among fates number) rest there more)
+      | false ↦ λ e. let differ : (table.number == number) ≡ false = grind (arith, nat_tests) in other_found table.number number (lens_among fates table.number) rest differ ∙ more
+    ] refl
 
 -- ---- a table that stays
 
-active_form : (former : Option Former) (frame : State) (number : ℕ) (name : List ℕ) (schema : Schema) (fates : List (ℕ × Fate)) → frame.mode ≡ Both name schema fates → form_in former frame number ≡ over_pair Paired (shared_in frame.schema schema fates number)
-active_form former frame number name schema fates m = rw m refl
-
-active_shared : (frame : State) (number : ℕ) (name : List ℕ) (schema : Schema) (fates : List (ℕ × Fate)) → frame.mode ≡ Both name schema fates → shared frame number ≡ shared_in frame.schema schema fates number
-active_shared frame number name schema fates m = ap (λ mode. shared_of (lens_between mode number) (option_and_then (λ schema. table_numbered schema number) (newer_schema mode)) (table_numbered frame.schema number)) m
-
-none_missing : (frame : State) (table : StoredTable) (both : Shared) → shared frame table.number ≡ Some both → not_filled_in frame table ≡ None → missing_keys (rows_meant table) ≡ []
-none_missing frame table both e h = no_least (missing_keys (rows_meant table)) (by_least (least (missing_keys (rows_meant table))) (sym (ap (option_and_then {U = Refusal} (λ (both : Shared). option_map (λ key. NotFilled (name_of both.new) key) (least (missing_keys (rows_meant table))))) e) ∙ h))
-  where
-    by_least : (o : Option ℤ) → option_map (λ key. NotFilled (name_of both.new) key) o ≡ None → o ≡ None
-    by_least None h = refl
-    by_least (Some key) h = cc
-
-none_each : (frame : State) (tables : List StoredTable) → first_some (not_filled_in frame) tables ≡ None → AllByRecursion (λ table. not_filled_in frame table ≡ None) tables
-none_each frame [] h = tt
-none_each frame (table ∷ tables) h = let parts = either_none (not_filled_in frame table) (first_some (not_filled_in frame) tables) h in (parts.0, none_each frame tables parts.1)
-
 -- What holds of it.
 record Stays (frame : State) (all : List StoredTable) (schema : Schema) (fates : List (ℕ × Fate)) (table : StoredTable) : Type 0 where
-  both : Shared
-  is : shared_in frame.schema schema fates table.number ≡ Some both
-  is_pair : IsPair (pair_over both)
-  lens : lens_among fates table.number ≡ Some both.lens
-  form : table.form ≡ Paired (pair_over both)
-  unmarked : AllByRecursion (λ row. is_marked (pair_over both) row.1 ≡ false) table.rows
-  paired : AllByRecursion (λ row. IsPairedRow (pair_over both) row.1) table.rows
-  known : is_some (table_numbered schema table.number) ≡ true
+  have : BothHave frame schema fates table
+  unmarked : AllByRecursion (λ row. is_marked (pair_over have.both) row.1 ≡ false) table.rows
+  paired : AllByRecursion (λ row. IsPairedRow (pair_over have.both) row.1) table.rows
   lost : found (filter_map (lost_by fates) all) table.number ≡ amount (lens_among fates table.number)
 
-stays_at : (frame : State) (former : Option Former) (all : List StoredTable) (name : List ℕ) (schema : Schema) (fates : List (ℕ × Fate)) → frame.mode ≡ Both name schema fates → IsState (meant frame all) → NewerStands (meant frame all) name schema fates
-    → (at : ℕ) (table : StoredTable) → slice_get all at ≡ Some table → IsStoredTable (record { frame = frame; former = former; tables = all }) table → not_filled_in frame table ≡ None → Stays frame all schema fates table
-stays_at frame former all name schema fates m stands newer at table e h none =
-    let number = table.number in
-    let among = subst (λ numbers. list_any (nat_eq number) numbers ≡ true) (sym (numbers_of-meant frame all)) (own_number all at table e) in
-    let lens = newer.kept number among in
-    let there = joined_both frame.schema schema fates number lens.0 lens.1 (newer.joined number lens.0 lens.1) in
-    let both = there.0 in
-    let parts = shared_parts (lens_among fates number) (table_numbered schema number) (table_numbered frame.schema number) both there.1 in
-    let form : table.form ≡ Paired (pair_over both) = h.form ∙ active_form former frame number name schema fates m ∙ ap (over_pair Paired) there.1 in
-    let missing = none_missing frame table both (active_shared frame number name schema fates m ∙ there.1) none in
+stays_at : (stored : Stored) (name : List ℕ) (schema : Schema) (fates : List (ℕ × Fate)) → stored.frame.mode ≡ Both name schema fates
+    → IsState (meaning stored) → (at : ℕ) (table : StoredTable) → slice_get stored.tables at ≡ Some table → IsStoredTable stored table
+    → Each (λ row. is_some row.halves.new ≡ true) (rows_meant table) → Stays stored.frame stored.tables schema fates table
+stays_at stored name schema fates m stands at table e h new =
+    let have = both_have stored name schema fates m stands table (own_number stored.tables at table e) h in
+    let pair = pair_over have.both in
     record {
-      both = both;
-      is = there.1;
-      is_pair = joined_pair frame.schema schema fates number both stands.version.schema_stands newer.version.schema_stands there.1 (newer.joined number both.lens parts.2);
-      lens = parts.2;
-      form = form;
-      unmarked = unmarked (pair_over both) table.rows (subst (λ form. missing_keys (map (kept form) table.rows) ≡ []) form missing);
-      paired = subst (λ form. AllByRecursion (λ row. IsStoredRow form row.1) table.rows) form h.rows;
-      known = ap is_some parts.1;
-      lost = lost_at fates all at table e;
+      have = have;
+      unmarked = unmarked pair table.rows (subst (λ form. Each (λ row. is_some row.halves.new ≡ true) (map (kept form) table.rows)) have.form new);
+      paired = subst (λ form. AllByRecursion (λ row. IsStoredRow form row.1) table.rows) have.form h.rows;
+      lost = lost_found fates table.number stored.tables ∙ ap (λ b. if b then amount (lens_among fates table.number) else 0) (own_number stored.tables at table e);
     }
 
 -- ---- what the step leaves of the tables
 
 table_stays : (frame : State) (all : List StoredTable) (schema : Schema) (fates : List (ℕ × Fate)) (table : StoredTable) → Stays frame all schema fates table → table_meant (left_table table) ≡ (table.number, map (completed_row (lens_among fates table.number)) (rows_meant table))
 table_stays frame all schema fates table h =
-    let pair = pair_over h.both in
-    ap (λ form. (table.number, map (kept (left_form form)) table.rows)) h.form
+    let pair = pair_over h.have.both in
+    ap (λ form. (table.number, map (kept (left_form form)) table.rows)) h.have.form
     ∙ ap (λ (rows : List Kept). (table.number, rows)) (rows_stay pair table.rows h.unmarked)
-    ∙ ap (λ lens. (table.number, map (completed_row lens) (map (kept (Paired pair)) table.rows))) (sym h.lens)
-    ∙ ap (λ form. (table.number, map (completed_row (lens_among fates table.number)) (map (kept form) table.rows))) (sym h.form)
+    ∙ ap (λ lens. (table.number, map (completed_row lens) (map (kept (Paired pair)) table.rows))) (sym h.have.lens)
+    ∙ ap (λ form. (table.number, map (completed_row (lens_among fates table.number)) (map (kept form) table.rows))) (sym h.have.form)
 
-tables_stay : (frame : State) (all : List StoredTable) (schema : Schema) (fates : List (ℕ × Fate)) (tables : List StoredTable) → AllByRecursion (Stays frame all schema fates) tables → map table_meant (map left_table tables) ≡ completed_tables schema fates (map table_meant tables)
+tables_stay : (frame : State) (all : List StoredTable) (schema : Schema) (fates : List (ℕ × Fate)) (tables : List StoredTable) → Each (Stays frame all schema fates) tables
+    → map table_meant (map left_table tables) ≡ map {B = ℕ × List Kept} (λ table. (table.0, map (completed_row (lens_among fates table.0)) table.1)) (map table_meant tables)
 tables_stay frame all schema fates [] h = refl
 tables_stay frame all schema fates (table ∷ tables) h =
-    let done : ℕ × List Kept → ℕ × List Kept = λ table. (table.0, map (completed_row (lens_among fates table.0)) table.1) in
-    let rest = filter (λ (table : ℕ × List Kept). is_some (table_numbered schema table.0)) (map table_meant tables) in
     ap (λ (t : ℕ × List Kept). t ∷ map table_meant (map left_table tables)) (table_stays frame all schema fates table h.0)
-    ∙ ap (λ (ts : List (ℕ × List Kept)). done (table_meant table) ∷ ts) (tables_stay frame all schema fates tables h.1)
-    ∙ sym (ap (λ b. map done (cond b (table_meant table ∷ rest) rest)) h.0.known)
+    ∙ ap (λ (ts : List (ℕ × List Kept)). (table.number, map (completed_row (lens_among fates table.number)) (rows_meant table)) ∷ ts) (tables_stay frame all schema fates tables h.1)
 
 lost_same : (fates : List (ℕ × Fate)) (tables : List StoredTable) → filter_map (lost_in_table fates) (map table_meant (map left_table tables)) ≡ filter_map (lost_by fates) tables
 lost_same fates [] = refl
@@ -269,24 +155,17 @@ lost_same fates (table ∷ tables) = ap (cons_option (lost_by fates table)) (los
 
 -- ---- the step
 
--- The frame that it leaves.
-abbrev left_of : State → List StoredTable → List ℕ → Schema → List (ℕ × Fate) → State
-left_of frame tables name schema fates = record frame { version = name; schema = schema; mode = Calm; left = 2; kind = kind.Complete; lost_columns = filter_map (lost_by fates) tables }
-
-abbrev gone_of : State → List (ℕ × Fate) → Former
-gone_of frame fates = record { version = frame.version; schema = frame.schema; fates = fates }
-
 left_stored : UnfilledRowsAreBegun → (frame : State) (all : List StoredTable) (name : List ℕ) (schema : Schema) (fates : List (ℕ × Fate)) (new tables : List StoredTable) → AllByRecursion (Stays frame all schema fates) tables
-    → AllByRecursion (IsStoredTable (record { frame = left_of frame all name schema fates; former = Some (gone_of frame fates); tables = new })) (map left_table tables)
+    → AllByRecursion (IsStoredTable (record { frame = record frame { version = name; schema = schema; mode = Calm; left = 2; kind = kind.Complete; lost_columns = filter_map (lost_by fates) all }; former = Some (record { version = frame.version; schema = frame.schema; fates = fates }); tables = new })) (map left_table tables)
 left_stored law frame all name schema fates new [] h = tt
 left_stored law frame all name schema fates new (table ∷ tables) h =
     let stays = h.0 in
-    let pair = pair_over stays.both in
-    let filled = rows_filled law pair table.rows stays.is_pair stays.unmarked stays.paired in (
+    let have = stays.have in
+    let filled = rows_filled law (pair_over have.both) table.rows have.is_pair stays.unmarked stays.paired in (
       record {
-        form = ap left_form stays.form ∙ sym (ap (over_pair Left) stays.is);
-        lost = stays.lost ∙ ap amount stays.lens ∙ sym (ap (λ form. lost_columns_by (left_form form)) stays.form);
-        rows = subst (λ form. AllByRecursion (λ row. IsStoredRow (left_form form) row.1) table.rows) (sym stays.form) filled;
+        form = ap left_form have.form ∙ sym (ap (over_pair Left) have.is);
+        lost = stays.lost ∙ ap amount have.lens ∙ sym (ap (λ form. lost_columns_by (left_form form)) have.form);
+        rows = subst (λ form. AllByRecursion (λ row. IsStoredRow (left_form form) row.1) table.rows) (sym have.form) filled;
       },
       left_stored law frame all name schema fates new tables h.1,
     )
@@ -296,23 +175,26 @@ record IsFinished (frame : State) (tables : List StoredTable) (name : List ℕ) 
   means : meant (left_frame (lost_columns frame.mode tables) frame) (map left_table tables) ≡ completed (meant frame tables) name schema fates
   kept : AreKept (record { frame = left_frame (lost_columns frame.mode tables) frame; former = former_of frame; tables = map left_table tables })
 
-is_finished : UnfilledRowsAreBegun → (frame : State) (former : Option Former) (tables : List StoredTable) (name : List ℕ) (schema : Schema) (fates : List (ℕ × Fate)) → frame.mode ≡ Both name schema fates → IsStored (record { frame = frame; former = former; tables = tables }) → may_not_complete frame tables ≡ None
+is_finished : Below → (frame : State) (former : Option Former) (tables : List StoredTable) (name : List ℕ) (schema : Schema) (fates : List (ℕ × Fate)) → frame.mode ≡ Both name schema fates → IsStored (record { frame = frame; former = former; tables = tables }) → may_not_complete frame tables ≡ None
     → IsFinished frame tables name schema fates
 is_finished law frame former tables name schema fates m stored may =
     let s = meant frame tables in
     let newer : NewerStands s name schema fates = subst (ModeStands s) m stored.stands.mode in
-    let none = none_each frame tables (either_none (first_some (not_filled_in frame) tables) (option_map not_valid (first_some (invalid_in frame) tables)) may).0 in
-    let stay = each_place (Stays frame tables schema fates) tables (λ at table e. stays_at frame former tables name schema fates m stored.stands newer at table e
-    (all_at (IsStoredTable (record { frame = frame; former = former; tables = tables })) tables at table stored.tables e) (all_at (λ table. not_filled_in frame table ≡ None) tables at table none e)) in
+    let none = (either_none (first_some (not_filled_in frame) tables) (option_map not_valid (first_some (invalid_in frame) tables)) may).0 in
+    let filled = ap (migrate.not_filled s) (numbers_of-meant frame tables) ∙ filled_all frame tables tables (rows_are law frame tables stored.stands) ∙ none in
+    let new = law.halves s name schema fates stored.stands m filled in
+    let parts : Stored = record { frame = frame; former = former; tables = tables } in
+    let stay = each_place (Stays frame tables schema fates) tables (λ at table e. stays_at parts name schema fates m stored.stands at table e
+    (all_at (IsStoredTable parts) tables at table stored.tables e) (all_at (λ (table : ℕ × List Kept). Each (λ row. is_some row.halves.new ≡ true) table.1) (map table_meant tables) at (table_meant table) new (got_mapped table_meant tables at table e))) in
     let whole : List (ℕ × List Kept) → List (ℕ × ℕ) → State = λ ts lost. record { version = name; schema = schema; mode = Calm; left = 2; kind = kind.Complete; next_table = frame.next_table; tables = ts; lost_columns = lost } in
     record {
       means = ap (λ mode. meant (left_by frame (lost_columns mode tables) mode) (map left_table tables)) m
           ∙ ap (whole (map table_meant (map left_table tables))) (sym (lost_same fates tables))
-          ∙ ap (λ (ts : List (ℕ × List Kept)). whole ts (filter_map (lost_in_table fates) ts)) (tables_stay frame tables schema fates tables stay);
+          ∙ ap (λ (ts : List (ℕ × List Kept)). whole ts (filter_map (lost_in_table fates) ts)) (tables_stay frame tables schema fates tables stay ∙ sym (ap (map (λ (table : ℕ × List Kept). (table.0, map (completed_row (lens_among fates table.0)) table.1))) (law.stay s name schema fates stored.stands m)));
       kept = subst (λ mode. AreKept (record { frame = left_by frame (lost_columns mode tables) mode; former = former_by frame mode; tables = map left_table tables })) (sym m) (record {
         once = stored.once;
         former = (omega arith, record { schema = stored.stands.version.schema_stands; joined = newer.joined });
-        tables = left_stored law frame tables name schema fates (map left_table tables) tables stay;
+        tables = left_stored law.unfilled frame tables name schema fates (map left_table tables) tables stay;
       });
     }
 
@@ -337,42 +219,19 @@ complete_by s kind.Rollback = Err (Unfinished kind.Rollback)
 complete_is : (s : State) (name : List ℕ) (schema : Schema) (fates : List (ℕ × Fate)) → s.kind ≡ kind.Nothing → s.mode ≡ Both name schema fates → complete s ≡ without (migrate.may_not_complete s) (stepped 1 (completed s name schema fates))
 complete_is s name schema fates k m = ap (complete_by s) k ∙ ap (finish s) m
 
-pub finish_refused : (frame : State) (tables : List StoredTable) (refusal : Refusal) → IsState (meant frame tables) → frame.kind ≡ kind.Nothing → migrate.inactive frame.mode ≡ None → may_not_complete frame tables ≡ Some refusal → complete (meant frame tables) ≡ Err refusal
-finish_refused frame tables refusal stands k a h =
+pub finish_refused : Below → (frame : State) (tables : List StoredTable) (refusal : Refusal) → IsState (meant frame tables) → frame.kind ≡ kind.Nothing → migrate.inactive frame.mode ≡ None → may_not_complete frame tables ≡ Some refusal → complete (meant frame tables) ≡ Err refusal
+finish_refused law frame tables refusal stands k a h =
     let s = meant frame tables in
     let active = is_active frame.mode a in
-    complete_is s active.name active.schema active.fates k active.is ∙ ap (λ may. without may (stepped 1 (completed s active.name active.schema active.fates))) (may_same frame tables stands ∙ h)
+    complete_is s active.name active.schema active.fates k active.is ∙ ap (λ may. without may (stepped 1 (completed s active.name active.schema active.fates))) (may_same law frame tables stands ∙ h)
 
--- A list that was written through a slice of the whole of it.
-pub written_back : {X : Type 0} (old new : List X) (len : ℕ) → len ≡ length new → length new ≡ length old → take len (new ++ drop (length new) old) ≡ new
-written_back [] [] len a b = rw a refl
-written_back [] (y ∷ new) len a b = absurd (omega (arith, b))
-written_back (x ∷ old) [] len a b = absurd (omega (arith, b))
-written_back (x ∷ old) (y ∷ new) zero a b = absurd (omega (arith, a))
-written_back (x ∷ old) (y ∷ new) (suc len) a b = ap (λ rest. y ∷ rest) (written_back old new len (omega (arith, a)) (omega (arith, b)))
-
--- What a call of the step leaves.
-pub record Finishes (frame : State) (tables : List StoredTable) (new : Stored) : Type 0 where
-  pub may : may_not_complete frame tables ≡ None
-  pub is_frame : new.frame ≡ left_frame (lost_columns frame.mode tables) frame
-  pub is_former : new.former ≡ former_of frame
-  pub is_tables : new.tables ≡ map left_table tables
-
-pub finish_goes : UnfilledRowsAreBegun → (frame : State) (former : Option Former) (tables : List StoredTable) (new : Stored) → IsStored (record { frame = frame; former = former; tables = tables }) → frame.kind ≡ kind.Nothing → migrate.inactive frame.mode ≡ None → Finishes frame tables new
-    → Goes (record { frame = frame; former = former; tables = tables }) (complete (meant frame tables)) (Ok (Complete 1)) new
-finish_goes law frame former tables new stored k a f =
-    let s = meant frame tables in
-    let active = is_active frame.mode a in
-    let is = is_finished law frame former tables active.name active.schema active.fates active.is stored f.may in
-    let outcome = complete_is s active.name active.schema active.fates k active.is ∙ ap (λ may. without may (stepped 1 (completed s active.name active.schema active.fates))) (may_same frame tables stored.stands ∙ f.may) in
-    (stepped 1 (completed s active.name active.schema active.fates), outcome, refl, ap (λ fr. meant fr new.tables) f.is_frame ∙ ap (meant (left_frame (lost_columns frame.mode tables) frame)) f.is_tables ∙ is.means)
-
-pub finish_stored : (frame : State) (former : Option Former) (tables : List StoredTable) (new : Stored) → Finishes frame tables new → new ≡ left_parts (record { frame = frame; former = former; tables = tables })
-finish_stored frame former tables new f =
-    same_parts new.frame (left_frame (lost_columns frame.mode tables) frame) new.former (former_of frame) new.tables (map left_table tables) f.is_frame f.is_former f.is_tables
-
-pub finish_keeps : UnfilledRowsAreBegun → (frame : State) (former : Option Former) (tables : List StoredTable) (new : Stored) → IsStored (record { frame = frame; former = former; tables = tables }) → migrate.inactive frame.mode ≡ None → Finishes frame tables new → AreKept new
-finish_keeps law frame former tables new stored a f =
-    let active = is_active frame.mode a in
-    let is = is_finished law frame former tables active.name active.schema active.fates active.is stored f.may in
-    subst AreKept (sym (finish_stored frame former tables new f)) is.kept
+-- The first step goes as the machine's does.
+pub finishes : Below → (stored : Stored) → IsStored stored → stored.frame.kind ≡ kind.Nothing → migrate.inactive stored.frame.mode ≡ None → may_not_complete stored.frame stored.tables ≡ None
+    → Goes stored (complete (meaning stored)) (Ok (Complete 1)) (left_parts stored) × AreKept (left_parts stored)
+finishes law stored is k a may =
+    let s = meaning stored in
+    let active = is_active stored.frame.mode a in
+    let done = is_finished law stored.frame stored.former stored.tables active.name active.schema active.fates active.is is may in
+    let step = stepped 1 (completed s active.name active.schema active.fates) in
+    let outcome = complete_is s active.name active.schema active.fates k active.is ∙ ap (λ may. without may step) (may_same law stored.frame stored.tables is.stands ∙ may) in
+    ((step, outcome, refl, done.means), done.kept)

@@ -1,34 +1,14 @@
 -- The rows that a job puts: their keys, their lost weights, and that both halves are there where both versions have the table.
-use Rattle.std.proofs.Common.{◌≡◌, ◌∙◌, ℕ, ℤ, List, [], ◌∷◌, Bool, true, false, Option, Some, None, Result, Ok, Err, is_some, if◌then◌else◌, map, ap, refl, sym, subst}
-use Rattle.std.specs.List.{AllByRecursion as Each, filter_map}
-use Rattle.std.specs.Option.{option_map_or}
-use Rattle.sql_base.specs.Laws.{and_then_ok, ok_same}
-use Rattle.sql_base.specs.Outcome.{and_then, every}
-use Rattle.sql_base.specs.declared.values.Value.{Value}
-use Rattle.row_rules.specs.Accept.{sound, wrong}
-use Rattle.row_rules.specs.Causes.{value_cause}
-use Rattle.row_rules.specs.Changes.{altered, altered_halves, altered_row, changes, filled_row, matching, new_row, passes, put_all, remade, row_passed}
-use Rattle.row_rules.specs.Outcome.{map_fault, without}
-use Rattle.row_rules.specs.Site.{Beside, Site, half, half_beside, halves_on, key_of, other, other_half, shape_of, shown, touched, touched_by}
-use Rattle.row_rules.specs.Words.{Expr, New, Old, Side}
-use Rattle.row_rules.specs.declared.kinds.Cause.{Cause}
-use Rattle.row_rules.specs.declared.kinds.Change.{Change}
-use Rattle.row_rules.specs.declared.kinds.Change.TheVariants.{Put, Remove}
-use Rattle.row_rules.specs.declared.kinds.Halves.{Halves}
-use Rattle.row_rules.specs.declared.kinds.Job.{Job}
-use Rattle.row_rules.specs.declared.kinds.Job.TheVariants as job
-use Rattle.row_rules.specs.declared.kinds.Kept.{Kept}
-use Rattle.machine.specs.Sites.{OfPut}
+use Rattle.roll_core.proofs.Words.{◌≡◌, ◌∙◌, ℕ, ℤ, List, [], ◌∷◌, true, false, Option, Some, None, Result, Ok, is_some, if◌then◌else◌, map, ap, refl, sym, subst, Each, filter_map, option_map_or}
+use Rattle.roll_core.proofs.Words.{and_then_ok, ok_same, and_then, every, Value, sound, wrong, value_cause, altered, altered_halves, altered_row, changes, filled_row, matching, new_row, passes}
+use Rattle.roll_core.proofs.Words.{remade, row_passed, map_fault, Beside, Site, half, half_beside, halves_on, key_of, other, other_half, shape_of, shown, touched, touched_by, Expr, New, Old, Side}
+use Rattle.roll_core.proofs.Words.{Cause, Change, Put, Remove, Halves, Job, Kept, OfPut}
+use Rattle.roll_core.proofs.Words.job
+use Rattle.row_rules.specs.Changes.{put_all}
+use Rattle.roll_core.proofs.Outcomes.{map_fault_ok, without_ok}
+use Rattle.roll_core.proofs.Tables.{each_all, each_mapped}
 
 -- ---- outcomes
-
-without_ok : {T E : Type 0} (fault : Option E) (x y : T) → without fault x ≡ Ok y → x ≡ y
-without_ok None x y h = ok_same x y h
-without_ok (Some fault) x y h = cc
-
-pub map_fault_ok : {T E F : Type 0} (of : E → F) (r : Result T E) (x : T) → map_fault of r ≡ Ok x → r ≡ Ok x
-map_fault_ok of (Ok y) x h = cc
-map_fault_ok of (Err fault) x h = cc
 
 -- What holds of each value that is made of what something holds of.
 every_made : {X Y E : Type 0} (f : X → Result Y E) (P : X → Type 0) (Q : Y → Type 0) → ((x : X) (y : Y) → P x → f x ≡ Ok y → Q y) → (xs : List X) (ys : List Y) → Each P xs → every (map f xs) ≡ Ok ys → Each Q ys
@@ -38,17 +18,9 @@ every_made f P Q h (x ∷ xs) ys p e =
     let rest = and_then_ok (every (map f xs)) (λ ys. Ok (first.0 ∷ ys)) ys first.2 in
     subst (Each Q) (ok_same (first.0 ∷ rest.0) ys rest.2) (h x first.0 p.0 first.1, every_made f P Q h xs rest.0 p.1 rest.1)
 
-any_row : {X : Type 0} (xs : List X) → Each (λ x. Unit {0}) xs
-any_row [] = tt
-any_row (x ∷ xs) = (tt, any_row xs)
-
-each_put : (Q : Kept → Type 0) (rows : List Kept) → Each Q rows → Each (OfPut Q) (map Put rows)
-each_put Q [] h = tt
-each_put Q (row ∷ rows) h = (h.0, each_put Q rows h.1)
-
-each_removed : (Q : Kept → Type 0) (rows : List Kept) → Each (OfPut Q) (map (λ row. Remove row.key) rows)
-each_removed Q [] = tt
-each_removed Q (row ∷ rows) = (tt, each_removed Q rows)
+pub of_put : {P Q : Kept → Type 0} → ((row : Kept) → P row → Q row) → (change : Change) → OfPut P change → OfPut Q change
+of_put h (Put row) p = h row p
+of_put h (Remove key) p = tt
 
 -- ---- one row
 
@@ -62,23 +34,19 @@ pub record Remade (site : Site) (key : ℤ) (lost : ℕ) (row : Kept) : Type 0 w
   pub is_lost : row.lost ≡ lost
   pub has_new : HasNew site.there row.halves
 
-halves_have : (side : Side) (values made : List Value) → is_some (halves_on side values (Some made)).new ≡ true
-halves_have Old values made = refl
-halves_have New values made = refl
-
 other_there : (side : Side) (site : Site) (there : Option Beside) → site.there ≡ there → (values : List Value) (before made : Option (List Value)) → other_half site values before ≡ Ok made → HasNew there (halves_on side values made)
 other_there side site None t values before made h = tt
 other_there side site (Some beside) t values before made h =
     let of = λ (o : Option Beside). option_map_or (λ beside. and_then (half_beside site.side (shape_of site.here) beside values before) (λ made. Ok (Some made))) o (Ok None) in
     let is : and_then (half_beside site.side (shape_of site.here) beside values before) (λ made. Ok (Some made)) ≡ Ok made = ap of (sym t) ∙ h in
     let step = and_then_ok (half_beside site.side (shape_of site.here) beside values before) (λ made. Ok (Some made)) made is in
-    subst (λ (m : Option (List Value)). is_some (halves_on side values m).new ≡ true) (ok_same (Some step.0) made step.2) (halves_have side values step.0)
+    subst (λ (m : Option (List Value)). is_some (halves_on side values m).new ≡ true) (ok_same (Some step.0) made step.2) (elim side as (λ side. is_some (halves_on side values (Some step.0)).new ≡ true) [ Old ↦ refl | New ↦ refl ])
 
 remade_is : (site : Site) (key : ℤ) (lost : ℕ) (before : Option (List Value)) (values : List Value) (row : Kept) → remade site key lost before values ≡ Ok row → Remade site key lost row
 remade_is site key lost before values row h =
     let step = and_then_ok (map_fault (value_cause key) (other_half site values before)) (λ other. sound site (record { key = key; halves = halves_on site.side values other; lost = lost })) row h in
     let made : Kept = record { key = key; halves = halves_on site.side values step.0; lost = lost } in
-    let same = without_ok (wrong site made) made row step.2 in
+    let same = (without_ok (wrong site made) made row step.2).1 in
     let there = other_there site.side site site.there refl values before step.0 (map_fault_ok (value_cause key) (other_half site values before) step.0 step.1) in
     subst (Remade site key lost) same (record { is_key = refl; is_lost = refl; has_new = there })
 
@@ -98,7 +66,7 @@ touched_there (Some beside) old (Some values) halves h = subst (λ (t : Halves).
 filled_is : (site : Site) → site.side ≡ New → (row made : Kept) → filled_row site row ≡ Ok made → Remade site row.key row.lost made
 filled_is site side row made h =
     let step = and_then_ok (map_fault (value_cause row.key) (touched site row.halves)) (λ halves. sound site (record row { halves = halves })) made h in
-    let same = without_ok (wrong site (record row { halves = step.0 })) (record row { halves = step.0 }) made step.2 in
+    let same = (without_ok (wrong site (record row { halves = step.0 })) (record row { halves = step.0 }) made step.2).1 in
     let begun = map_fault_ok (value_cause row.key) (touched site row.halves) step.0 step.1 in
     let there = touched_there site.there row.halves.old row.halves.new step.0 (ap (λ side. touched_by site.there side row.halves) (sym side) ∙ begun) in
     subst (Remade site row.key row.lost) same (record { is_key = refl; is_lost = refl; has_new = there })
@@ -112,11 +80,7 @@ IfThere P (Some row) = P row
 passed_there : (P : Kept → Type 0) (site : Site) (condition : Option Expr) (row : Kept) (o : Option Kept) → P row → row_passed site condition row ≡ Ok o → IfThere P o
 passed_there P site condition row o p h =
     let step = and_then_ok (map_fault (value_cause row.key) (passes (shape_of site.here) condition (shown site row.halves))) (λ passed. Ok (if passed then Some row else None)) o h in
-    subst (IfThere P) (ok_same (if step.0 then Some row else None) o step.2) (by_test step.0)
-  where
-    by_test : (b : Bool) → IfThere P (if b then Some row else None)
-    by_test true = p
-    by_test false = tt
+    subst (IfThere P) (ok_same (if step.0 then Some row else None) o step.2) (elim step.0 as (λ b. IfThere P (if b then Some row else None)) [ true ↦ p | false ↦ tt ])
 
 all_there : (P : Kept → Type 0) (found : List (Option Kept)) → Each (IfThere P) found → Each P (filter_map (λ row. row) found)
 all_there P [] h = tt
@@ -154,12 +118,12 @@ placed P site key lost row p r = record { weighs = subst (λ k. P k row.lost) (s
 put_made : (Q : Kept → Type 0) (r : Result (List Kept) Cause) (all : List Change) → ((rows : List Kept) → r ≡ Ok rows → Each Q rows) → put_all r ≡ Ok all → Each (OfPut Q) all
 put_made Q r all h e =
     let step = and_then_ok r (λ rows. Ok (map Put rows)) all e in
-    subst (Each (OfPut Q)) (ok_same (map Put step.0) all step.2) (each_put Q step.0 (h step.0 step.1))
+    subst (Each (OfPut Q)) (ok_same (map Put step.0) all step.2) (each_mapped Put _ (λ row q. q) step.0 (h step.0 step.1))
 
 pub changes_placed : (P : ℤ → ℕ → Type 0) (site : Site) (what : Job) (older : List Kept) (all : List Change) → SideOf site what → PutBy P site what older → changes site what older ≡ Ok all → Each (OfPut (Placed P site)) all
 changes_placed P site (job.Put rows) older all side kept h =
     put_made (Placed P site) (every (map (new_row site) rows)) all
-    (λ new e. every_made (new_row site) (λ values. Unit {0}) (Placed P site) (λ values row u m. placed P site (key_of (shape_of site.here) values) site.lost row (kept (key_of (shape_of site.here) values)) (remade_is site (key_of (shape_of site.here) values) site.lost None values row m)) rows new (any_row rows) e) h
+    (λ new e. every_made (new_row site) (λ values. Unit {0}) (Placed P site) (λ values row u m. placed P site (key_of (shape_of site.here) values) site.lost row (kept (key_of (shape_of site.here) values)) (remade_is site (key_of (shape_of site.here) values) site.lost None values row m)) rows new (each_all (λ values. tt) rows) e) h
 changes_placed P site (job.Alter sets condition) older all side kept h =
     put_made (Placed P site) (and_then (matching site condition older) (λ rows. every (map (altered_row site sets) rows))) all
     (λ new e.
@@ -167,7 +131,7 @@ changes_placed P site (job.Alter sets condition) older all side kept h =
     every_made (altered_row site sets) (λ row. P row.key row.lost) (Placed P site) (λ row made p m. placed P site row.key row.lost made p (altered_is site sets row made m)) step.0 new (matching_each (λ row. P row.key row.lost) site condition older step.0 kept step.1) step.2) h
 changes_placed P site (job.Remove condition) older all side kept h =
     let step = and_then_ok (matching site condition older) (λ rows. Ok (map (λ row. Remove row.key) rows)) all h in
-    subst (Each (OfPut (Placed P site))) (ok_same (map (λ (row : Kept). Remove row.key) step.0) all step.2) (each_removed (Placed P site) step.0)
+    subst (Each (OfPut (Placed P site))) (ok_same (map (λ (row : Kept). Remove row.key) step.0) all step.2) (each_mapped (λ (row : Kept). Remove row.key) _ (λ row u. u) step.0 (each_all {P = λ row. Unit {0}} (λ row. tt) step.0))
 changes_placed P site job.Fill older all side kept h =
     put_made (Placed P site) (every (map (filled_row site) older)) all
     (λ new e. every_made (filled_row site) (λ row. P row.key row.lost) (Placed P site) (λ row made p m. placed P site row.key row.lost made p (filled_is site side row made m)) older new kept e) h

@@ -1,119 +1,137 @@
 -- The first rows that are still to be filled, and the first table that has any.
-use Rattle.std.proofs.Common.{arith, ◌≡◌, ◌∙◌, ℕ, zero, suc, ℤ, List, [], ◌∷◌, Bool, true, false, ◌||◌, if◌then◌else◌, length, map, nat_lt, take, filter, ap, refl, sym, subst, int_cmp, int_eq, Ordering, Less, Equal, Greater}
-use Rattle.std.specs.List.{AllByRecursion as Each, list_any}
-use Rattle.std.specs.Ordering.{is_eq, ordering_reverse}
-use Rattle.std.proofs.lemmas.Bool.Decides.{nat_tests}
-use Rattle.std.proofs.lemmas.Cmp.{int_cmp_total, tied_itself}
-use Rattle.row_rules.specs.declared.kinds.Kept.{Kept}
-use Rattle.row_rules.specs.Rows.{missing_keys, rows_at}
-use Rattle.row_rules.specs.Site.{is_missing}
-use Rattle.machine.specs.Standing.{Ascends}
+use Rattle.roll_core.proofs.Words.{Below, int_eq_equiv, arith, ◌≡◌, ◌∙◌, ℕ, zero, suc, ℤ, List, [], ◌∷◌, Bool, true, false, ◌||◌, if◌then◌else◌, length, map, nat_lt, take, filter, ap, refl, sym}
+use Rattle.roll_core.proofs.Words.{subst, int_cmp, int_eq, Less, Each, list_any, is_eq, nat_tests, int_cmp_total, Kept, rows_at, is_missing, Ascends, keys_missing, slice_get-get_or, ◌<◌, Option, Some}
+use Rattle.roll_core.proofs.Words.{None, find, drop, option_map, option_and_then, slice_get, slice_index_or, option_map_or, option_or, length-map, either_none, some_same, Calm, State, bad_batch}
+use Rattle.roll_core.proofs.Words.{first_of, has_missing, inactive, may_not_fill, steps_left, unfilled_tables, Shared, missing_keys, rows_of, shared, Form, Own, Paired, Left, Trimmed, FirstUnfilled}
+use Rattle.roll_core.proofs.Words.{is_unfilled, number_at, OwnTable, FormSuits, Runs, meant, seen, StoredTable, rows_meant, table_meant}
+use Rattle.roll_core.proofs.Tables.{all_at, each_place, got_mapped, rows_of-read}
 
 -- ---- the rows of the first keys
 
-eq_turns : (x y : ℤ) → int_eq x y ≡ int_eq y x
-eq_turns x y = ap is_eq (int_cmp_total.antisymm x y) ∙ turned (int_cmp y x)
-  where
-    turned : (o : Ordering) → is_eq (ordering_reverse o) ≡ is_eq o
-    turned Less = refl
-    turned Equal = refl
-    turned Greater = refl
-
 -- The key is less than each of these rows'.
-abbrev Below : ℤ → List Kept → Type 0
-Below key rows = Each (λ row. int_cmp key row.key ≡ Less) rows
+abbrev IsBelow : ℤ → List Kept → Type 0
+IsBelow key rows = Each (λ row. int_cmp key row.key ≡ Less) rows
 
-below_more : (key other : ℤ) (rows : List Kept) → int_cmp key other ≡ Less → Below other rows → Below key rows
+below_more : (key other : ℤ) (rows : List Kept) → int_cmp key other ≡ Less → IsBelow other rows → IsBelow key rows
 below_more key other [] h b = tt
 below_more key other (row ∷ rows) h b = (int_cmp_total.trans key other row.key h b.0, below_more key other rows h b.1)
 
-rest_below : (row : Kept) (rows : List Kept) → Ascends (row ∷ rows) → Below row.key rows × Ascends rows
+rest_below : (row : Kept) (rows : List Kept) → Ascends (row ∷ rows) → IsBelow row.key rows × Ascends rows
 rest_below row [] h = (tt, tt)
 rest_below row (next ∷ rows) h =
     let there = rest_below next rows h.1 in
     ((h.0, below_more row.key next.key rows h.0 there.0), h.1)
 
-key_absent : (p : Kept → Bool) (key : ℤ) (n : ℕ) (rows : List Kept) → Below key rows → list_any (int_eq key) (take n (map (λ row. row.key) (filter p rows))) ≡ false
-key_absent p key zero [] b = refl
-key_absent p key (suc n) [] b = refl
-key_absent p key n (row ∷ rows) b = by_test (p row) n (key_absent p key n rows b.1) (λ m. key_absent p key m rows b.1)
-  where
-    by_test : (here : Bool) (n : ℕ) → list_any (int_eq key) (take n (map (λ row. row.key) (filter p rows))) ≡ false → ((m : ℕ) → list_any (int_eq key) (take m (map (λ row. row.key) (filter p rows))) ≡ false) → list_any (int_eq key) (take n (map (λ row. row.key) (if here then row ∷ filter p rows else filter p rows))) ≡ false
-    by_test true zero there each = refl
-    by_test true (suc n) there each = ap (λ c. is_eq c || list_any (int_eq key) (take n (map (λ row. row.key) (filter p rows)))) b.0 ∙ each n
-    by_test false n there each = there
-
--- rows behind a key aren't of this key
-skipped : (q : Kept → Bool) (key : ℤ) (rows : List Kept) → Below key rows → filter (λ row. int_eq row.key key || q row) rows ≡ filter q rows
-skipped q key [] b = refl
-skipped q key (row ∷ rows) b = by_test (int_eq row.key key) (q row) (eq_turns row.key key ∙ ap is_eq b.0) (skipped q key rows b.1)
-  where
-    by_test : (a c : Bool) → a ≡ false → filter (λ row. int_eq row.key key || q row) rows ≡ filter q rows → (if a || c then row ∷ filter (λ row. int_eq row.key key || q row) rows else filter (λ row. int_eq row.key key || q row) rows) ≡ (if c then row ∷ filter q rows else filter q rows)
-    by_test true c e there = cc
-    by_test false true e there = ap (λ rows. row ∷ rows) there
-    by_test false false e there = there
-
 none_taken : {X : Type 0} (xs : List X) → take zero xs ≡ []
 none_taken [] = refl
 none_taken (x ∷ xs) = refl
+
+key_absent : (p : Kept → Bool) (key : ℤ) (n : ℕ) (rows : List Kept) → IsBelow key rows → list_any (int_eq key) (take n (map (λ row. row.key) (filter p rows))) ≡ false
+key_absent p key zero rows b = ap (list_any (int_eq key)) (none_taken (map (λ row. row.key) (filter p rows)))
+key_absent p key (suc n) [] b = refl
+key_absent p key (suc n) (row ∷ rows) b =
+    elim (p row) as (λ here. list_any (int_eq key) (take (suc n) (map {A = Kept} (λ row. row.key) (if here then row ∷ filter p rows else filter p rows))) ≡ false)
+    [ true ↦ ap (λ c. is_eq c || list_any (int_eq key) (take n (map (λ row. row.key) (filter p rows)))) b.0 ∙ key_absent p key n rows b.1 | false ↦ key_absent p key (suc n) rows b.1 ]
+
+-- rows behind a key aren't of this key
+skipped : (q : Kept → Bool) (key : ℤ) (rows : List Kept) → IsBelow key rows → filter (λ row. int_eq row.key key || q row) rows ≡ filter q rows
+skipped q key [] b = refl
+skipped q key (row ∷ rows) b =
+    let rest = filter (λ row. int_eq row.key key || q row) rows in
+    ap (λ a. if a || q row then row ∷ rest else rest) (int_eq_equiv.symm row.key key ∙ ap is_eq b.0) ∙ ap (λ rest. if q row then row ∷ rest else rest) (skipped q key rows b.1)
 
 none_left : (rows : List Kept) → filter (λ row. false) rows ≡ []
 none_left [] = refl
 none_left (row ∷ rows) = none_left rows
 
 -- The rows of the first keys of those that pass are the first rows that do.
-first_rows : (p : Kept → Bool) (n : ℕ) (rows : List Kept) → Ascends rows → rows_at (take n (map (λ row. row.key) (filter p rows))) rows ≡ take n (filter p rows)
+pub first_rows : (p : Kept → Bool) (n : ℕ) (rows : List Kept) → Ascends rows → rows_at (take n (map (λ row. row.key) (filter p rows))) rows ≡ take n (filter p rows)
 first_rows p zero rows h = ap (λ keys. rows_at keys rows) (none_taken (map (λ row. row.key) (filter p rows))) ∙ none_left rows ∙ sym (none_taken (filter p rows))
 first_rows p (suc n) [] h = refl
 first_rows p (suc n) (row ∷ rows) h =
     let rest = rest_below row rows h in
-    by_test (p row) (key_absent p row.key (suc n) rows rest.0) (first_rows p n rows rest.1) (first_rows p (suc n) rows rest.1) rest.0
-  where
-    keys : List ℤ
-    keys = map (λ row. row.key) (filter p rows)
-
-    by_key : (here : Bool) (c : Bool) (left : List Kept) → here ≡ true → (if here || c then row ∷ left else left) ≡ row ∷ left
-    by_key true c left e = refl
-    by_key false c left e = cc
-
-    by_absent : (c : Bool) (left : List Kept) → c ≡ false → (if c then row ∷ left else left) ≡ left
-    by_absent true left e = cc
-    by_absent false left e = refl
-
-    by_test : (b : Bool) → list_any (int_eq row.key) (take (suc n) keys) ≡ false → rows_at (take n keys) rows ≡ take n (filter p rows) → rows_at (take (suc n) keys) rows ≡ take (suc n) (filter p rows) → Below row.key rows
-        → rows_at (take (suc n) (map (λ row. row.key) (if b then row ∷ filter p rows else filter p rows))) (row ∷ rows) ≡ take (suc n) (if b then row ∷ filter p rows else filter p rows)
-    by_test true absent less same below =
-        by_key (int_eq row.key row.key) (list_any (int_eq row.key) (take n keys)) (filter (λ other. int_eq other.key row.key || list_any (int_eq other.key) (take n keys)) rows) (ap is_eq (tied_itself int_cmp_total row.key))
-        ∙ ap (λ left. row ∷ left) (skipped (λ other. list_any (int_eq other.key) (take n keys)) row.key rows below ∙ less)
-    by_test false absent less same below = by_absent (list_any (int_eq row.key) (take (suc n) keys)) (rows_at (take (suc n) keys) rows) absent ∙ same
-
-pub first_missing : (n : ℕ) (rows : List Kept) → Ascends rows → rows_at (take n (missing_keys rows)) rows ≡ take n (filter is_missing rows)
-first_missing n rows h = first_rows is_missing n rows h
+    let keys = map (λ row. row.key) (filter p rows) in
+    let left = filter (λ other. int_eq other.key row.key || list_any (int_eq other.key) (take n keys)) rows in
+    let same = rows_at (take (suc n) keys) rows in
+    elim (p row) as (λ b. rows_at (take (suc n) (map {A = Kept} (λ row. row.key) (if b then row ∷ filter p rows else filter p rows))) (row ∷ rows) ≡ take (suc n) (if b then row ∷ filter p rows else filter p rows)) [
+      | true ↦ ap (λ b. if b || list_any (int_eq row.key) (take n keys) then row ∷ left else left) (int_eq_equiv.refl row.key)
+          ∙ ap (λ left. row ∷ left) (skipped (λ other. list_any (int_eq other.key) (take n keys)) row.key rows rest.0 ∙ first_rows p n rows rest.1)
+      | false ↦ ap (λ b. if b then row ∷ same else same) (key_absent p row.key (suc n) rows rest.0) ∙ first_rows p (suc n) rows rest.1
+    ]
 
 -- ---- whether there is any
 
-some_more : (n : ℕ) → nat_lt 0 (suc n) ≡ true
-some_more n = grind (arith, nat_tests)
-
-pub any_left : (rows : List Kept) → nat_lt 0 (length (missing_keys rows)) ≡ list_any is_missing rows
+pub any_left : (rows : List Kept) → nat_lt 0 (length (keys_missing rows)) ≡ list_any is_missing rows
 any_left [] = refl
-any_left (row ∷ rows) = by_test (is_missing row) (any_left rows)
-  where
-    by_test : (b : Bool) → nat_lt 0 (length (missing_keys rows)) ≡ list_any is_missing rows → nat_lt 0 (length (map {A = Kept} (λ row. row.key) (if b then row ∷ filter is_missing rows else filter is_missing rows))) ≡ (b || list_any is_missing rows)
-    by_test true there = some_more (length (map {A = Kept} (λ row. row.key) (filter is_missing rows)))
-    by_test false there = there
+any_left (row ∷ rows) =
+    elim (is_missing row) as (λ b. nat_lt 0 (length (map {A = Kept} (λ row. row.key) (if b then row ∷ filter is_missing rows else filter is_missing rows))) ≡ (b || list_any is_missing rows))
+    [ true ↦ grind (arith, nat_tests) | false ↦ any_left rows ]
 
 -- ---- what holds of rows holds of some of them
 
 pub each_left : (P : Kept → Type 0) (p : Kept → Bool) (rows : List Kept) → Each P rows → Each P (filter p rows)
 each_left P p [] h = tt
-each_left P p (row ∷ rows) h = by_test (p row) (each_left P p rows h.1)
-  where
-    by_test : (b : Bool) → Each P (filter p rows) → Each P (if b then row ∷ filter p rows else filter p rows)
-    by_test true there = (h.0, there)
-    by_test false there = there
+each_left P p (row ∷ rows) h =
+    elim (p row) as (λ b. Each P (if b then row ∷ filter p rows else filter p rows)) [ true ↦ (h.0, each_left P p rows h.1) | false ↦ each_left P p rows h.1 ]
 
 pub each_taken : (P : Kept → Type 0) (n : ℕ) (rows : List Kept) → Each P rows → Each P (take n rows)
 each_taken P zero rows h = subst (Each P) (sym (none_taken rows)) tt
 each_taken P (suc n) [] h = tt
 each_taken P (suc n) (row ∷ rows) h = (h.0, each_taken P n rows h.1)
+
+-- A migration is active, where a batch may be filled.
+pub active : (s : State) (n : ℕ) → may_not_fill s n ≡ None → ¬ (s.mode ≡ Calm)
+active s n e calm =
+    let first = either_none (bad_batch n) (option_or (steps_left s) (inactive s.mode)) e in
+    let second = either_none (steps_left s) (inactive s.mode) first.1 in
+    let is : inactive Calm ≡ None = ap inactive (sym calm) ∙ second.1 in
+    cc
+
+-- Then each table is one of both versions.
+suits_shared : (s : State) (number : ℕ) (form : Form) → FormSuits s number form → ¬ (s.mode ≡ Calm) → (both : Shared) × (shared s number ≡ Some both)
+suits_shared s number Own h live = absurd (live h)
+suits_shared s number (Paired pair) h live = (h.both, h.shares)
+suits_shared s number (Left pair) h live = absurd (live h.calm)
+suits_shared s number (Trimmed pair) h live = absurd (live h.calm)
+
+abbrev Tells : State → StoredTable → Type 0
+Tells s table = has_missing s table.number ≡ is_unfilled table
+
+tells : Below → (frame : State) (tables : List StoredTable) → Runs frame tables → ¬ (frame.mode ≡ Calm) → Each (Tells (meant frame tables)) tables
+tells law frame tables runs live = each_place (Tells (meant frame tables)) tables (λ at table e.
+    let s = meant frame tables in
+    let both = suits_shared frame table.number table.form (all_at (λ table. FormSuits frame table.number table.form) tables at table runs.forms e) live in
+    let rows = rows_of-read law frame tables at table.number table runs.stands (record { here = e; numbered = refl }) in
+    let keys : missing_keys s table.number ≡ keys_missing (rows_of s table.number) = ap (λ (o : Option Shared). option_map_or (λ pair. keys_missing (rows_of s table.number)) o []) both.1 in
+    ap (λ keys. nat_lt 0 (length keys)) keys ∙ ap (λ rows. nat_lt 0 (length (keys_missing rows))) rows ∙ any_left (rows_meant table))
+
+first_number : (s : State) (tables : List StoredTable) → Each (Tells s) tables → first_of (filter (has_missing s) (map (λ table. table.0) (map table_meant tables))) ≡ option_map (λ table. table.number) (find is_unfilled tables)
+first_number s [] h = refl
+first_number s (table ∷ tables) h =
+    let rest = filter (has_missing s) (map (λ table. table.0) (map table_meant tables)) in
+    ap (λ b. first_of (if b then table.number ∷ rest else rest)) h.0
+    ∙ elim (is_unfilled table) as (λ b. first_of (if b then table.number ∷ rest else rest) ≡ option_map (λ table. table.number) (if b then Some table else find is_unfilled tables)) [ true ↦ refl | false ↦ first_number s tables h.1 ]
+
+found_first : (tables : List StoredTable) (first : Option ℕ) → FirstUnfilled tables first → option_map (λ table. table.number) (find is_unfilled tables) ≡ option_and_then (number_at tables) first
+found_first tables None h = ap (option_map (λ (table : StoredTable). table.number)) h
+found_first tables (Some at) h = ap (option_map (λ (table : StoredTable). table.number)) h.1
+
+-- The first table that has a row to be filled is at the place that was found.
+pub first_table : Below → (frame : State) (tables : List StoredTable) (n : ℕ) (first : Option ℕ) → Runs frame tables → may_not_fill (meant frame tables) n ≡ None → FirstUnfilled tables first → first_of (unfilled_tables (meant frame tables)) ≡ option_and_then (number_at tables) first
+first_table law frame tables n first runs may h =
+    first_number (meant frame tables) tables (tells law frame tables runs (active (meant frame tables) n may)) ∙ found_first tables first h
+
+-- ---- the loop
+
+drop_found : (tables : List OwnTable) (at : ℕ) (table : OwnTable) → slice_get tables at ≡ Some table → is_unfilled (seen table) ≡ true → find is_unfilled (map seen (drop at tables)) ≡ Some (seen table)
+drop_found [] at table e u = cc
+drop_found (first ∷ tables) zero table e u =
+    let same : seen first ≡ seen table = ap seen (some_same first table e) in
+    ap (λ b. if b then Some (seen first) else find is_unfilled (map seen tables)) (ap is_unfilled same ∙ u) ∙ ap Some same
+drop_found (first ∷ tables) (suc at) table e u = drop_found tables at table e u
+
+pub found_here : (tables : List OwnTable) (at : ℕ) (d table : OwnTable) → at < length tables → table ≡ slice_index_or tables at d → find is_unfilled (map seen (drop at tables)) ≡ find is_unfilled (map seen tables) → is_unfilled (seen table) ≡ true → FirstUnfilled (map seen tables) (Some at)
+found_here tables at d table h e left u =
+    let got : slice_get tables at ≡ Some table = slice_get-get_or tables at d h ∙ ap Some (sym e) in
+    let long = length-map tables seen in
+    (omega (arith, h, long), sym left ∙ drop_found tables at table got u ∙ sym (got_mapped seen tables at table got))

@@ -1,125 +1,127 @@
--- What an engine stores is what its steps are promised.
-use Rattle.std.proofs.Common.{arith, ◌≡◌, ◌∙◌, ℕ, List, [], ◌∷◌, Bool, true, false, ◌||◌, ◌==◌, Option, Some, None, if◌then◌else◌, is_some, nat_eq, ap, refl, sym, subst, option_map, option_and_then}
-use Rattle.std.specs.List.{AllByRecursion as Each, list_all, list_any}
-use Rattle.std.proofs.lemmas.Bool.Decides.{nat_tests}
-use Rattle.sql_base.specs.Laws.{both as both_true, some_same}
-use Rattle.sql_base.specs.declared.shapes.Schema.{Schema}
-use Rattle.mig_lens.specs.declared.columns.Lens.{Lens}
-use Rattle.mig_lens.specs.declared.plans.Fate.{Fate}
-use Rattle.mig_lens.specs.Laws.{IsSchema, Joins}
-use Rattle.mig_lens.specs.Lens.{IsWellFormed, fits}
-use Rattle.mig_lens.specs.Plan.{Table, table_numbered}
-use Rattle.row_rules.specs.Site.{shape_of}
-use Rattle.machine.specs.declared.states.Mode.{Mode}
-use Rattle.machine.specs.declared.states.Mode.TheVariants.{Calm, Both}
-use Rattle.machine.specs.declared.states.State.{State}
-use Rattle.machine.specs.Migrate.{numbers_of}
-use Rattle.machine.specs.Standing.{IsState, ModeStands, NewerStands}
-use Rattle.machine.specs.State.{Shared, lens_among, lens_between, lost_columns_of, newer_schema, shared, table_on}
-use Rattle.machine.specs.Words.{New, Old}
-use Rattle.trigger_pair.specs.declared.pairs.Pair.{Pair}
-use Rattle.trigger_pair.specs.Laws.{IsPair}
-use Rattle.roll_core.specs.declared.forms.Form.{Form}
-use Rattle.roll_core.specs.declared.forms.Form.TheVariants.{Own, Paired, Left, Trimmed}
-use Rattle.roll_core.specs.declared.store.Former.{Former}
-use Rattle.roll_core.specs.Running.{FormSuits, LeftBy, Runs, RowsStored, meant, numbers_in}
-use Rattle.roll_core.specs.Store.{FormerStands, HasFormer, IsStored, IsStoredTable, Stored, StoredTable, both_again, calm_form, former_pair, lost_columns_by, over_pair, pair_over}
-use Rattle.roll_core.proofs.Tables.{numbers_of-meant}
+-- What both versions have of a table, and that what an engine stores is what its steps are promised.
+use Rattle.roll_core.proofs.Words.{lens_between, newer_schema, Both, State, form_in, over_pair, Paired, Former, shared, ◌≡◌, ◌∙◌, ℕ, List, Option, Some, None, true, ap, refl, sym, subst, option_map}
+use Rattle.roll_core.proofs.Words.{option_and_then, some_same, Schema, Shape, Lens, Fate, IsSchema, Joins, IsWellFormed, fits, Table, table_numbered, shape_of, Shared, lens_among, IsPair, pair_over}
+use Rattle.roll_core.proofs.Words.{meaning, false, ◌==◌, if◌then◌else◌, nat_eq, list_any, Mode, Calm, IsState, ModeStands, NewerStands, Pair, Form, Own, Left, Trimmed, FormSuits, LeftBy, Runs}
+use Rattle.roll_core.proofs.Words.{numbers_in, FormerStands, HasFormer, IsStored, IsStoredTable, Stored, StoredTable, both_again, calm_form, former_pair}
+use Rattle.roll_core.proofs.Tables.{all_at, each_of, each_place, numbers_of-meant, own_number}
 
--- ---- what two versions have of a table
+-- What both have, where they have it and a lens.
+abbrev pub shared_of : Option Lens → Option Table → Option Table → Option Shared
+shared_of lens new old = option_and_then (λ old. option_and_then (λ new. option_map {U = Shared} (λ lens. record { old = old; new = new; lens = lens }) lens) new) old
 
-abbrev pair_by : Option Lens → Option Table → Option Table → Option Shared
-pair_by lens old new = option_and_then (λ old. option_and_then (λ new. option_map (λ lens. record { old = old; new = new; lens = lens }) lens) new) old
+abbrev pub shared_in : Schema → Schema → List (ℕ × Fate) → ℕ → Option Shared
+shared_in old new fates number = shared_of (lens_among fates number) (table_numbered new number) (table_numbered old number)
 
-record PairParts (lens : Option Lens) (old new : Option Table) (pair : Shared) : Type 0 where
-  old_is : old ≡ Some pair.old
-  new_is : new ≡ Some pair.new
-  lens_is : lens ≡ Some pair.lens
+pub shared_parts : (lens : Option Lens) (new old : Option Table) (both : Shared) → shared_of lens new old ≡ Some both → (old ≡ Some both.old) × (new ≡ Some both.new) × (lens ≡ Some both.lens)
+shared_parts lens new None both h = cc
+shared_parts lens None (Some old) both h = cc
+shared_parts None (Some new) (Some old) both h = cc
+shared_parts (Some lens) (Some new) (Some old) both h =
+    let same = some_same (record { old = old; new = new; lens = lens }) both h in
+    (ap (λ (b : Shared). Some b.old) same, ap (λ (b : Shared). Some b.new) same, ap (λ (b : Shared). Some b.lens) same)
 
-pair_parts : (lens : Option Lens) (old new : Option Table) (pair : Shared) → pair_by lens old new ≡ Some pair → PairParts lens old new pair
-pair_parts lens None new pair h = cc
-pair_parts lens (Some old) None pair h = cc
-pair_parts None (Some old) (Some new) pair h = cc
-pair_parts (Some lens) (Some old) (Some new) pair h = record { old_is = ap (option_map (λ p. p.old)) h; new_is = ap (option_map (λ p. p.new)) h; lens_is = ap (option_map (λ p. p.lens)) h }
+pub no_lens : (new old : Option Table) → shared_of None new old ≡ None
+no_lens new None = refl
+no_lens None (Some old) = refl
+no_lens (Some new) (Some old) = refl
 
--- The pair of tables of two schemas that a lens joins.
-joined_pair : (old new : Schema) (number : ℕ) (pair : Shared) → IsSchema old → IsSchema new → Joins pair.lens number old new → table_numbered old number ≡ Some pair.old → table_numbered new number ≡ Some pair.new → IsPair (pair_over pair)
-joined_pair old new number pair is_old is_new j o n =
-    let before : j.before ≡ shape_of pair.old = some_same j.before (shape_of pair.old) (sym j.in_old ∙ ap (option_map shape_of) o) in
-    let after : j.after ≡ shape_of pair.new = some_same j.after (shape_of pair.new) (sym j.in_new ∙ ap (option_map shape_of) n) in
+shape_found : (found : Option Table) (shape : Shape) → option_map (λ table. table.2) found ≡ Some shape → (table : Table) × (found ≡ Some table)
+shape_found None shape h = cc
+shape_found (Some table) shape h = (table, refl)
+
+have_both : (has : Option Lens) (newer older : Option Table) (lens : Lens) (new old : Table) → has ≡ Some lens → newer ≡ Some new → older ≡ Some old → shared_of has newer older ≡ Some (record { old = old; new = new; lens = lens })
+have_both has newer older lens new old a b c = rw (a, b, c) refl
+
+-- A table whose lens joins the two versions is.
+pub joined_both : (old new : Schema) (fates : List (ℕ × Fate)) (number : ℕ) (lens : Lens) → lens_among fates number ≡ Some lens → Joins lens number old new → (both : Shared) × (shared_in old new fates number ≡ Some both)
+joined_both old new fates number lens l joined =
+    let older = shape_found (table_numbered old number) joined.before joined.in_old in
+    let newer = shape_found (table_numbered new number) joined.after joined.in_new in
+    (record { old = older.0; new = newer.0; lens = lens }, have_both (lens_among fates number) (table_numbered new number) (table_numbered old number) lens newer.0 older.0 l newer.1 older.1)
+
+same_shape : (found : Option Table) (table : Table) (shape : Shape) → found ≡ Some table → option_map (λ table. table.2) found ≡ Some shape → shape ≡ shape_of table
+same_shape found table shape f h = some_same shape (shape_of table) (sym h ∙ ap (option_map (λ (table : Table). table.2)) f)
+
+-- What both have of it is a pair.
+pub joined_pair : (old new : Schema) (fates : List (ℕ × Fate)) (number : ℕ) (both : Shared) → IsSchema old → IsSchema new → shared_in old new fates number ≡ Some both → Joins both.lens number old new → IsPair (pair_over both)
+joined_pair old new fates number both is_old is_new h joined =
+    let parts = shared_parts (lens_among fates number) (table_numbered new number) (table_numbered old number) both h in
+    let older = same_shape (table_numbered old number) both.old joined.before parts.0 joined.in_old in
+    let newer = same_shape (table_numbered new number) both.new joined.after parts.1 joined.in_new in
     record {
-      old = is_old.shapes number (shape_of pair.old) (ap (option_map shape_of) o);
-      new = is_new.shapes number (shape_of pair.new) (ap (option_map shape_of) n);
-      fitting = subst (λ shape. fits pair.lens (shape_of pair.old) shape ≡ true) after (subst (λ shape. fits pair.lens shape j.after ≡ true) before j.fitting);
-      lens = subst (IsWellFormed pair.lens (shape_of pair.old)) after (subst (λ shape. IsWellFormed pair.lens shape j.after) before j.well_formed);
+      old = is_old.shapes number (shape_of both.old) (ap (option_map (λ (table : Table). table.2)) parts.0);
+      new = is_new.shapes number (shape_of both.new) (ap (option_map (λ (table : Table). table.2)) parts.1);
+      fitting = subst (λ shape. fits both.lens shape (shape_of both.new) ≡ true) older (subst (λ shape. fits both.lens joined.before shape ≡ true) newer joined.fitting);
+      lens = subst (λ shape. IsWellFormed both.lens shape (shape_of both.new)) older (subst (λ shape. IsWellFormed both.lens joined.before shape) newer joined.well_formed);
       layout = refl;
     }
 
+pub active_form : (former : Option Former) (frame : State) (number : ℕ) (name : List ℕ) (schema : Schema) (fates : List (ℕ × Fate)) → frame.mode ≡ Both name schema fates → form_in former frame number ≡ over_pair Paired (shared_in frame.schema schema fates number)
+active_form former frame number name schema fates m = rw m refl
+
 -- ---- while both versions stand
 
-paired_by : (s : State) (name : List ℕ) (schema : Schema) (fates : List (ℕ × Fate)) → s.mode ≡ Both name schema fates → IsSchema s.schema → NewerStands s name schema fates → (number : ℕ) (pair : Shared) → shared s number ≡ Some pair → IsPair (pair_over pair)
-paired_by s name schema fates m is stands number pair h =
-    let parts = pair_parts (lens_between s.mode number) (table_on s Old number) (table_on s New number) pair h in
-    let lens : lens_among fates number ≡ Some pair.lens = ap (λ mode. lens_between mode number) (sym m) ∙ parts.lens_is in
-    let new : table_numbered schema number ≡ Some pair.new = ap (λ mode. option_and_then (λ schema. table_numbered schema number) (newer_schema mode)) (sym m) ∙ parts.new_is in
-    joined_pair s.schema schema number pair is stands.version.schema_stands (stands.joined number pair.lens lens) parts.old_is new
+-- What holds of a table: both versions have it, and it is stored over its pair.
+pub record BothHave (frame : State) (schema : Schema) (fates : List (ℕ × Fate)) (table : StoredTable) : Type 0 where
+  pub both : Shared
+  pub is : shared_in frame.schema schema fates table.number ≡ Some both
+  pub shares : shared frame table.number ≡ Some both
+  pub new : table_numbered schema table.number ≡ Some both.new
+  pub lens : lens_among fates table.number ≡ Some both.lens
+  pub is_pair : IsPair (pair_over both)
+  pub form : table.form ≡ Paired (pair_over both)
 
-some_there : {X : Type 0} (o : Option X) → is_some o ≡ true → (x : X) × (o ≡ Some x)
-some_there None h = cc
-some_there (Some x) h = (x, refl)
-
-known_at : (schema : Schema) (numbers : List ℕ) (number : ℕ) → list_all (λ number. is_some (table_numbered schema number)) numbers ≡ true → list_any (nat_eq number) numbers ≡ true → is_some (table_numbered schema number) ≡ true
-known_at schema [] number h k = cc
-known_at schema (first ∷ numbers) number h k =
-    let parts = both_true (is_some (table_numbered schema first)) (list_all (λ number. is_some (table_numbered schema number)) numbers) h in
-    by_test (nat_eq number first) refl k parts.0 (known_at schema numbers number parts.1)
-  where
-    by_test : (b : Bool) → nat_eq number first ≡ b → (b || list_any (nat_eq number) numbers) ≡ true → is_some (table_numbered schema first) ≡ true → (list_any (nat_eq number) numbers ≡ true → is_some (table_numbered schema number) ≡ true) → is_some (table_numbered schema number) ≡ true
-    by_test true e k here there = let same : number ≡ first = grind (arith, nat_tests) in subst (λ n. is_some (table_numbered schema n) ≡ true) (sym same) here
-    by_test false e k here there = there k
-
--- Each table that is stored is one of both.
-all_shared : (s : State) (name : List ℕ) (schema : Schema) (fates : List (ℕ × Fate)) → s.mode ≡ Both name schema fates → IsState s → NewerStands s name schema fates → (number : ℕ) → list_any (nat_eq number) (numbers_of s) ≡ true → (pair : Shared) × (shared s number ≡ Some pair)
-all_shared s name schema fates m is stands number a =
-    let lens = stands.kept number a in
-    let old = some_there (table_numbered s.schema number) (known_at s.schema (numbers_of s) number is.version.known a) in
-    let new = some_there (table_numbered schema number) (known_at schema (numbers_of s) number stands.version.known a) in
-    let pair : Shared = record { old = old.0; new = new.0; lens = lens.0 } in
-    let lens_is : lens_between s.mode number ≡ Some lens.0 = ap (λ mode. lens_between mode number) m ∙ lens.1 in
-    let new_is : table_on s New number ≡ Some new.0 = ap (λ mode. option_and_then (λ schema. table_numbered schema number) (newer_schema mode)) m ∙ new.1 in
-    (pair, ap (λ l. pair_by l (table_on s Old number) (table_on s New number)) lens_is ∙ ap (λ o. pair_by (Some lens.0) o (table_on s New number)) old.1 ∙ ap (pair_by (Some lens.0) (Some old.0)) new_is)
-
-both_suits : (s : State) (number : ℕ) (form : Form) (pair : Shared) → shared s number ≡ Some pair → IsPair (pair_over pair) → form ≡ over_pair Paired (shared s number) → FormSuits s number form
-both_suits s number form pair e is f =
-    let same : form ≡ Paired (pair_over pair) = f ∙ ap (over_pair Paired) e in
-    subst (FormSuits s number) (sym same) (record { both = pair; shares = e; over = refl; is_pair = is })
+pub both_have : (stored : Stored) (name : List ℕ) (schema : Schema) (fates : List (ℕ × Fate)) → stored.frame.mode ≡ Both name schema fates
+    → IsState (meaning stored) → (table : StoredTable) → list_any (nat_eq table.number) (numbers_in stored.tables) ≡ true
+    → IsStoredTable stored table → BothHave stored.frame schema fates table
+both_have stored name schema fates m stands table a t =
+    let frame = stored.frame in
+    let number = table.number in
+    let newer : NewerStands (meaning stored) name schema fates = subst (ModeStands (meaning stored)) m stands.mode in
+    let among = subst (λ ns. list_any (nat_eq number) ns ≡ true) (sym (numbers_of-meant frame stored.tables)) a in
+    let lens = newer.kept number among in
+    let there = joined_both frame.schema schema fates number lens.0 lens.1 (newer.joined number lens.0 lens.1) in
+    let both = there.0 in
+    let parts = shared_parts (lens_among fates number) (table_numbered schema number) (table_numbered frame.schema number) both there.1 in
+    let joined = newer.joined number both.lens parts.2 in
+    record {
+      both = both;
+      is = there.1;
+      shares = ap (λ mode. shared_of (lens_between mode number) (option_and_then (λ schema. table_numbered schema number) (newer_schema mode)) (table_numbered frame.schema number)) m ∙ there.1;
+      new = parts.1;
+      lens = parts.2;
+      is_pair = joined_pair frame.schema schema fates number both stands.version.schema_stands newer.version.schema_stands there.1 joined;
+      form = t.form ∙ active_form stored.former frame number name schema fates m ∙ ap (over_pair Paired) there.1;
+    }
 
 -- ---- while one does
 
-left_by : (frame : State) (former : Former) → frame.mode ≡ Calm → IsSchema frame.schema → FormerStands frame former → (number : ℕ) (pair : Shared) → shared (both_again former frame) number ≡ Some pair → LeftBy frame number (pair_over pair)
+left_by : (frame : State) (former : Former) → frame.mode ≡ Calm → IsSchema frame.schema → FormerStands frame former → (number : ℕ) (pair : Shared)
+    → shared (both_again former frame) number ≡ Some pair → LeftBy frame number (pair_over pair)
 left_by frame former m is stands number pair h =
-    let parts = pair_parts (lens_among former.fates number) (table_numbered former.schema number) (table_numbered frame.schema number) pair h in
+    let parts = shared_parts (lens_among former.fates number) (table_numbered frame.schema number) (table_numbered former.schema number) pair h in
     record {
       calm = m;
-      is_pair = joined_pair former.schema frame.schema number pair stands.schema is (stands.joined number pair.lens parts.lens_is) parts.old_is parts.new_is;
-      shape = λ table e. ap shape_of (some_same pair.new table (sym parts.new_is ∙ e));
+      is_pair = joined_pair former.schema frame.schema former.fates number pair stands.schema is h (stands.joined number pair.lens parts.2);
+      shape = λ table e. ap shape_of (some_same pair.new table (sym parts.1 ∙ e));
     }
 
 over_suits : (form : Pair → Form) (s : State) (number : ℕ) (o : Option Shared) → s.mode ≡ Calm → ((pair : Shared) → o ≡ Some pair → FormSuits s number (form (pair_over pair))) → FormSuits s number (over_pair form o)
 over_suits form s number None m h = m
 over_suits form s number (Some pair) m h = h pair refl
 
-former_by : (frame : State) (former : Option Former) → frame.mode ≡ Calm → IsSchema frame.schema → HasFormer frame former → (number : ℕ) (pair : Shared) → former_pair former frame number ≡ Some pair → LeftBy frame number (pair_over pair)
+pub former_by : (frame : State) (former : Option Former) → frame.mode ≡ Calm → IsSchema frame.schema → HasFormer frame former → (number : ℕ) (pair : Shared) → former_pair former frame number ≡ Some pair → LeftBy frame number (pair_over pair)
 former_by frame None m is h number pair e = cc
 former_by frame (Some former) m is h number pair e = left_by frame former m is h.1 number pair e
 
 calm_suits : (frame : State) (former : Option Former) → frame.mode ≡ Calm → IsSchema frame.schema → HasFormer frame former → (number : ℕ) → FormSuits frame number (calm_form former frame number)
-calm_suits frame former m is h number = by_left (frame.left == 2) (frame.left == 1)
-  where
-    by_left : (two one : Bool) → FormSuits frame number (if two then over_pair Left (former_pair former frame number) else if one then over_pair Trimmed (former_pair former frame number) else Own)
-    by_left true one = over_suits Left frame number (former_pair former frame number) m (λ pair e. former_by frame former m is h number pair e)
-    by_left false true = over_suits Trimmed frame number (former_pair former frame number) m (λ pair e. former_by frame former m is h number pair e)
-    by_left false false = m
+calm_suits frame former m is h number =
+    let over = former_pair former frame number in
+    let left = λ (pair : Shared) (e : over ≡ Some pair). former_by frame former m is h number pair e in
+    elim (frame.left == 2) as (λ two. FormSuits frame number (if two then over_pair Left over else if frame.left == 1 then over_pair Trimmed over else Own)) [
+      | true ↦ over_suits Left frame number over m left
+      | false ↦ elim (frame.left == 1) as (λ one. FormSuits frame number (if one then over_pair Trimmed over else Own)) [ true ↦ over_suits Trimmed frame number over m left | false ↦ m ]
+    ]
 
 -- ---- each table
 
@@ -129,44 +131,17 @@ form_suits stored is Calm m table a t =
     let form : table.form ≡ calm_form stored.former frame table.number = t.form ∙ ap (λ (mode : Mode). elim mode [ Calm ↦ calm_form stored.former frame table.number | Both name schema fates ↦ over_pair Paired (shared frame table.number) ]) m in
     subst (FormSuits frame table.number) (sym form) (calm_suits frame stored.former m is.stands.version.schema_stands is.former table.number)
 form_suits stored is (Both name schema fates) m table a t =
-    let frame = stored.frame in
-    let s = meant frame stored.tables in
-    let newer : NewerStands s name schema fates = subst (ModeStands s) m is.stands.mode in
-    let among = subst (λ ns. list_any (nat_eq table.number) ns ≡ true) (sym (numbers_of-meant frame stored.tables)) a in
-    let there = all_shared s name schema fates m is.stands newer table.number among in
-    let form : table.form ≡ over_pair Paired (shared frame table.number) = t.form ∙ ap (λ (mode : Mode). elim mode [ Calm ↦ calm_form stored.former frame table.number | Both name schema fates ↦ over_pair Paired (shared frame table.number) ]) m in
-    both_suits frame table.number table.form there.0 there.1 (paired_by s name schema fates m is.stands.version.schema_stands newer table.number there.0 there.1) form
-
-same_number : (n : ℕ) → nat_eq n n ≡ true
-same_number n = grind (arith, nat_tests)
-
-or_true : (a b : Bool) → b ≡ true → (a || b) ≡ true
-or_true true b h = refl
-or_true false b h = h
-
-each_among : (numbers : List ℕ) (tables : List StoredTable) → ((n : ℕ) → list_any (nat_eq n) (numbers_in tables) ≡ true → list_any (nat_eq n) numbers ≡ true) → Each (λ table. list_any (nat_eq table.number) numbers ≡ true) tables
-each_among numbers [] h = tt
-each_among numbers (table ∷ tables) h =
-    (h table.number (ap (λ b. b || list_any (nat_eq table.number) (numbers_in tables)) (same_number table.number)), each_among numbers tables (λ n k. h n (or_true (nat_eq n table.number) (list_any (nat_eq n) (numbers_in tables)) k)))
-
-forms_of : (stored : Stored) → IsStored stored → (tables : List StoredTable) → Each (λ table. list_any (nat_eq table.number) (numbers_in stored.tables) ≡ true) tables → Each (IsStoredTable stored) tables → Each (λ table. FormSuits stored.frame table.number table.form) tables
-forms_of stored is [] a h = tt
-forms_of stored is (table ∷ tables) a h = (form_suits stored is stored.frame.mode refl table a.0 h.0, forms_of stored is tables a.1 h.1)
-
-losts_of : (stored : Stored) (tables : List StoredTable) → Each (IsStoredTable stored) tables → Each (λ table. lost_columns_of stored.frame table.number ≡ lost_columns_by table.form) tables
-losts_of stored [] h = tt
-losts_of stored (table ∷ tables) h = (h.0.lost, losts_of stored tables h.1)
-
-rows_of : (stored : Stored) (tables : List StoredTable) → Each (IsStoredTable stored) tables → Each RowsStored tables
-rows_of stored [] h = tt
-rows_of stored (table ∷ tables) h = (h.0.rows, rows_of stored tables h.1)
+    let have = both_have stored name schema fates m is.stands table a t in
+    let paired : FormSuits stored.frame table.number (Paired (pair_over have.both)) =
+    record { both = have.both; shares = have.shares; over = refl; is_pair = have.is_pair } in
+    subst (FormSuits stored.frame table.number) (sym have.form) paired
 
 -- What an engine stores can be run over.
 pub runs_of : (stored : Stored) → IsStored stored → Runs stored.frame stored.tables
-runs_of stored is =
-    record {
-      stands = is.stands;
-      forms = forms_of stored is stored.tables (each_among (numbers_in stored.tables) stored.tables (λ n k. k)) is.tables;
-      lost = losts_of stored stored.tables is.tables;
-      rows = rows_of stored stored.tables is.tables;
-    }
+runs_of stored is = record {
+  stands = is.stands;
+  forms = each_place (λ table. FormSuits stored.frame table.number table.form) stored.tables (λ at table e.
+      form_suits stored is stored.frame.mode refl table (own_number stored.tables at table e) (all_at (IsStoredTable stored) stored.tables at table is.tables e));
+  lost = each_of (λ (table : StoredTable) h. h.lost) stored.tables is.tables;
+  rows = each_of (λ (table : StoredTable) h. h.rows) stored.tables is.tables;
+}

@@ -1,23 +1,20 @@
--- Rows that a step stores anew stand in the order in which they stood.
-use Rattle.std.proofs.Common.{arith, ◌≡◌, ◌∙◌, ◌<◌, ℕ, zero, suc, ℤ, List, [], ◌∷◌, Bool, true, false, ◌&&◌, Some, None, int_cmp, Ordering, Less, Equal, Greater, ap, refl, sym, subst, length, map, take}
-use Rattle.std.specs.Prelude.{T, slice_get}
-use Rattle.std.specs.Cmp.{int_cmp_total}
-use Rattle.std.specs.FinMap as finite
-use Rattle.std.specs.FinMap.{is_sorted, put}
-use Rattle.std.specs.FinMap.Entries.{below_all, by_order}
-use Rattle.std.specs.Ordering.{is_lt, ordering_reverse}
-use Rattle.sql_base.specs.Laws.{some_same}
-use Rattle.sql_base.specs.declared.values.Value.{Value}
-use Rattle.row_store.specs.Stored.{Rows}
-use Rattle.roll_core.specs.declared.forms.Form.{Form}
-use Rattle.roll_core.specs.Stepping.{stepped_row, stepped_values}
-use Rattle.roll_core.specs.Store.{StoredRow}
+-- Rows that a step stores anew stand in their order, and what the second and the third step of completing leave.
+use Rattle.roll_core.proofs.Words.{take_all, le_of_eq, nil_from_length, arith, ◌≡◌, ◌∙◌, ◌<◌, ℕ, zero, suc, ℤ, List, [], ◌∷◌, Bool, true, false, ◌&&◌, Some, None, int_cmp, Ordering, Less, Equal}
+use Rattle.roll_core.proofs.Words.{Greater, ap, refl, sym, subst, length, map, take, T, slice_get, int_cmp_total, is_sorted, put, below_all, by_order, is_lt, ordering_reverse, some_same, Each, Kept}
+use Rattle.roll_core.proofs.Words.{Value, Rows, Form, IsStoredRow, kept, stepped_row, stepped_values, StoredRow, meaning, ◌==◌, Option, Ok, inl, inr, ◌⊎◌, if◌then◌else◌, map-id, map-map, Calm, Both}
+use Rattle.roll_core.proofs.Words.{State, Complete, complete, stepped, table_without_loss, tidied, without_loss, ModeStands, StepsStand, Shared, Pair, IsPair, Own, Left, Trimmed, Former, meant}
+use Rattle.roll_core.proofs.Words.{AreKept, Goes, tidied_form, tidied_number, tidied_parts, tidied_table, HasFormer, IsStored, IsStoredTable, Stored, StoredTable, form_in, former_pair}
+use Rattle.roll_core.proofs.Words.{lost_columns_by, over_pair, pair_over, rows_meant, table_meant, Below}
+use Rattle.roll_core.proofs.Words.finite
+use Rattle.roll_core.proofs.Words.kind
+use Rattle.roll_core.proofs.Runs.{former_by}
+use Rattle.roll_core.proofs.Tables.{each_mapped, each_of, none_lost}
 
-split : (a b : Bool) → T (a && b) → T a × T b
+pub split : (a b : Bool) → T (a && b) → T a × T b
 split true b h = (tt, h)
 split false b h = absurd h
 
-is_less : (o : Ordering) → T (is_lt o) → o ≡ Less
+pub is_less : (o : Ordering) → T (is_lt o) → o ≡ Less
 is_less Less h = refl
 is_less Equal h = absurd h
 is_less Greater h = absurd h
@@ -54,18 +51,158 @@ none_past [] at e h = omega (arith, h)
 none_past (x ∷ xs) zero e h = cc
 none_past (x ∷ xs) (suc at) e h = none_past xs at e (omega (arith, h))
 
-take_whole : {X : Type 0} (xs : List X) (n : ℕ) → n ≡ length xs → take n xs ≡ xs
-take_whole [] zero h = refl
-take_whole [] (suc n) h = refl
-take_whole (x ∷ xs) zero h = absurd (omega (arith, h))
-take_whole (x ∷ xs) (suc n) h = ap (λ rest. x ∷ rest) (take_whole xs n (omega (arith, h)))
-
 pub stepped_whole : (form : Form) (rows stepped : Rows) (at : ℕ) → finite.entries stepped ≡ map (stepped_row form) (take at (finite.entries rows)) → at ≡ finite.len rows → finite.entries stepped ≡ map (stepped_row form) (finite.entries rows)
-stepped_whole form rows stepped at is e = is ∙ ap (map (stepped_row form)) (take_whole (finite.entries rows) at (e ∙ finite.len-entries rows))
-
-no_length : {X : Type 0} (xs : List X) → length xs ≡ 0 → xs ≡ []
-no_length [] e = refl
-no_length (x ∷ xs) e = absurd (omega (arith, e))
+stepped_whole form rows stepped at is e = is ∙ ap (map (stepped_row form)) (take_all at (finite.entries rows) (le_of_eq (sym (e ∙ finite.len-entries rows))))
 
 pub none_stored : (rows : Rows) → rows ≡ finite.empty → finite.entries rows ≡ []
-none_stored rows e = ap finite.entries e ∙ no_length (finite.entries {X = List Value} {R = int_cmp} finite.empty) (sym (finite.len-entries finite.empty) ∙ finite.len-empty int_cmp (List Value))
+none_stored rows e = ap finite.entries e ∙ nil_from_length (finite.entries {X = List Value} {R = int_cmp} finite.empty) (sym (finite.len-entries finite.empty) ∙ finite.len-empty int_cmp (List Value))
+
+-- ---- what they mean
+
+-- A row that is stored anew means what is wanted, and is stored as its new form wants.
+abbrev pub StepsTo : Form → Form → (StoredRow → Kept) → StoredRow → Type 0
+StepsTo step after wanted row = (kept after (stepped_row step row) ≡ wanted row) × IsStoredRow after (stepped_values step row.1)
+
+pub rows_next : (step after : Form) (wanted : StoredRow → Kept) (rows : List StoredRow) → Each (StepsTo step after wanted) rows
+    → (map (kept after) (map (stepped_row step) rows) ≡ map wanted rows) × Each (λ row. IsStoredRow after row.1) (map (stepped_row step) rows)
+rows_next step after wanted [] h = (refl, tt)
+rows_next step after wanted (row ∷ rows) h =
+    let rest = rows_next step after wanted rows h.1 in
+    (ap (λ (k : Kept). k ∷ map (kept after) (map (stepped_row step) rows)) h.0.0 ∙ ap (λ (ks : List Kept). wanted row ∷ ks) rest.0, (h.0.1, rest.1))
+
+-- ---- a table
+
+-- What a step leaves of a table, of whose rows this is wanted.
+record IsNext (wanted : Kept → Kept) (form : Form) (table : StoredTable) : Type 0 where
+  is_form : tidied_form table.form ≡ form
+  means : table_meant (tidied_table table) ≡ (table.number, map wanted (rows_meant table))
+  rows : Each (λ row. IsStoredRow (tidied_form table.form) row.1) (map (stepped_row table.form) table.rows)
+  lost : lost_columns_by (tidied_form table.form) ≡ 0
+
+next_by : (before : Form) (wanted : Kept → Kept) → lost_columns_by (tidied_form before) ≡ 0
+    → ((row : StoredRow) → IsStoredRow before row.1 → StepsTo before (tidied_form before) (λ row. wanted (kept before row)) row)
+    → (table : StoredTable) → table.form ≡ before → Each (λ row. IsStoredRow table.form row.1) table.rows → IsNext wanted (tidied_form before) table
+next_by before wanted lost one table f h =
+    let stored = subst (λ form. Each (λ row. IsStoredRow form row.1) table.rows) f h in
+    let next = rows_next before (tidied_form before) (λ row. wanted (kept before row)) table.rows (each_of one table.rows stored) in
+    let is : IsNext wanted (tidied_form before) (record { number = table.number; form = before; rows = table.rows }) = record {
+      is_form = refl;
+      means = ap (λ (rows : List Kept). (table.number, rows)) (next.0 ∙ sym (map-map wanted (kept before) table.rows));
+      rows = next.1;
+      lost = lost;
+    } in
+    subst (λ form. IsNext wanted (tidied_form before) (record { number = table.number; form = form; rows = table.rows })) (sym f) is
+
+row_trimmed : Below → (pair : Pair) → IsPair pair → (row : StoredRow) → IsStoredRow (Left pair) row.1
+    → StepsTo (Left pair) (Trimmed pair) (λ row. without_loss (kept (Left pair) row)) row
+row_trimmed law pair is row h =
+    let shown = law.trims pair row.1 is (law.filled_long pair row.1 is h).0 in
+    (ap (λ (v : List Value). record { key = row.0; halves = record { old = Some v; new = None }; lost = 0 }) shown, law.trimmed pair row.1 is h)
+
+second_by : Below → (both : Option Shared) → ((shared : Shared) → both ≡ Some shared → IsPair (pair_over shared)) → (table : StoredTable)
+    → table.form ≡ over_pair Left both → Each (λ row. IsStoredRow table.form row.1) table.rows → IsNext without_loss (over_pair Trimmed both) table
+second_by law None is table f h = next_by Own without_loss refl (λ row h. (refl, tt)) table f h
+second_by law (Some both) is table f h = next_by (Left (pair_over both)) without_loss refl (row_trimmed law (pair_over both) (is both refl)) table f h
+
+third_by : (both : Option Shared) (table : StoredTable) → table.form ≡ over_pair Trimmed both → Each (λ row. IsStoredRow table.form row.1) table.rows
+    → IsNext (λ row. row) Own table
+third_by None table f h = next_by Own (λ row. row) refl (λ row h. (refl, tt)) table f h
+third_by (Some both) table f h = next_by (Trimmed (pair_over both)) (λ row. row) refl (λ row h. (refl, tt)) table f h
+
+-- ---- all tables
+
+next_mean : (wanted : Kept → Kept) (form : ℕ → Form) (tables : List StoredTable) → Each (λ table. IsNext wanted (form table.number) table) tables
+    → map table_meant (map tidied_table tables) ≡ map {B = ℕ × List Kept} (λ table. (table.0, map wanted table.1)) (map table_meant tables)
+next_mean wanted form [] h = refl
+next_mean wanted form (table ∷ tables) h = ap (λ (t : ℕ × List Kept). t ∷ map table_meant (map tidied_table tables)) h.0.means
+    ∙ ap (λ (ts : List (ℕ × List Kept)). (table.number, map wanted (rows_meant table)) ∷ ts) (next_mean wanted form tables h.1)
+
+same_rows : (tables : List (ℕ × List Kept)) → map {B = ℕ × List Kept} (λ table. (table.0, map (λ row. row) table.1)) tables ≡ tables
+same_rows [] = refl
+same_rows (table ∷ tables) = ap (λ (rows : List Kept). (table.0, rows) ∷ map {B = ℕ × List Kept} (λ table. (table.0, map (λ row. row) table.1)) tables) (map-id table.1)
+    ∙ ap (λ (ts : List (ℕ × List Kept)). table ∷ ts) (same_rows tables)
+
+next_stored : (wanted : Kept → Kept) (form : ℕ → Form) (new : Stored) (tables : List StoredTable) → ((number : ℕ) → form number ≡ form_in new.former new.frame number)
+    → new.frame.lost_columns ≡ [] → Each (λ table. IsNext wanted (form table.number) table) tables → Each (IsStoredTable new) (map tidied_table tables)
+next_stored wanted form new tables f l h = each_mapped tidied_table _
+    (λ (table : StoredTable) is. record { form = is.is_form ∙ f table.number; lost = none_lost new.frame table.number l ∙ sym is.lost; rows = is.rows }) tables h
+
+-- ---- the steps
+
+two_form : (former : Option Former) (frame : State) (number : ℕ) → frame.mode ≡ Calm → frame.left ≡ 2 → form_in former frame number ≡ over_pair Left (former_pair former frame number)
+two_form former frame number m l = rw (m, l) refl
+
+one_form : (former : Option Former) (frame : State) (number : ℕ) → frame.mode ≡ Calm → frame.left ≡ 1 → form_in former frame number ≡ over_pair Trimmed (former_pair former frame number)
+one_form former frame number m l = rw (m, l) refl
+
+pub no_form : (former : Option Former) (frame : State) (number : ℕ) → frame.mode ≡ Calm → frame.left ≡ 0 → form_in former frame number ≡ Own
+no_form former frame number m l = rw (m, l) refl
+
+-- What a step leaves.
+pub record IsTidied (two : Bool) (frame : State) (former : Option Former) (tables : List StoredTable) : Type 0 where
+  pub means :
+      meant (if two then record frame { left = 1; lost_columns = [] } else record frame { left = 0; kind = kind.Nothing }) (map tidied_table tables)
+      ≡ (if two then record (meant frame tables) { left = 1; tables = map table_without_loss (map table_meant tables); lost_columns = [] } else record (meant frame tables) { left = 0; kind = kind.Nothing })
+  pub kept : AreKept (record { frame = if two then record frame { left = 1; lost_columns = [] } else record frame { left = 0; kind = kind.Nothing }; former = if two then former else None; tables = map tidied_table tables })
+
+second : Below → (frame : State) (former : Option Former) (tables : List StoredTable) → IsStored (record { frame = frame; former = former; tables = tables })
+    → frame.mode ≡ Calm → frame.left ≡ 2 → IsTidied true frame former tables
+second law frame former tables stored m l =
+    let new = record frame { left = 1; lost_columns = [] } in
+    let form = λ (number : ℕ). over_pair Trimmed (former_pair former frame number) in
+    let is_pair = λ (number : ℕ) (both : Shared) (e : former_pair former frame number ≡ Some both).
+    (former_by frame former m stored.stands.version.schema_stands stored.former number both e).is_pair in
+    let each : Each (λ table. IsNext without_loss (form table.number) table) tables = each_of
+    (λ table h. second_by law (former_pair former frame table.number) (is_pair table.number) table (h.form ∙ two_form former frame table.number m l) h.rows) tables stored.tables in
+    record {
+      means = ap (λ (ts : List (ℕ × List Kept)). record new { tables = ts }) (next_mean without_loss form tables each);
+      kept = record {
+        once = stored.once;
+        former = elim former as (λ former. HasFormer frame former → HasFormer new former) [ None ↦ λ h. let no : 0 ≡ 2 = sym h ∙ l in absurd (omega (arith, no)) | Some former ↦ λ h. (omega arith, record { schema = h.1.schema; joined = h.1.joined }) ] stored.former;
+        tables = next_stored without_loss form (record { frame = new; former = former; tables = map tidied_table tables }) tables (λ number. sym (one_form former new number m refl)) refl each;
+      };
+    }
+
+third : (frame : State) (former : Option Former) (tables : List StoredTable) → IsStored (record { frame = frame; former = former; tables = tables })
+    → frame.mode ≡ Calm → frame.kind ≡ kind.Complete → frame.left ≡ 1 → IsTidied false frame former tables
+third frame former tables stored m k l =
+    let new = record frame { left = 0; kind = kind.Nothing } in
+    let each : Each (IsNext (λ row. row) Own) tables = each_of
+    (λ table h. third_by (former_pair former frame table.number) table (h.form ∙ one_form former frame table.number m l) h.rows) tables stored.tables in
+    let nothing = stored.stands.lost (rw (k, l) refl) in
+    record {
+      means = ap (λ (ts : List (ℕ × List Kept)). record new { tables = ts }) (next_mean (λ row. row) (λ number. Own) tables each ∙ same_rows (map table_meant tables));
+      kept = record {
+        once = stored.once;
+        former = refl;
+        tables = next_stored (λ row. row) (λ number. Own) (record { frame = new; former = None; tables = map tidied_table tables }) tables (λ number. sym (no_form None new number m refl)) nothing.columns each;
+      };
+    }
+
+-- The next step leaves what the machine's leaves.
+pub is_tidied : Below → (frame : State) (former : Option Former) (tables : List StoredTable) → IsStored (record { frame = frame; former = former; tables = tables }) → frame.kind ≡ kind.Complete → IsTidied (frame.left == 2) frame former tables
+is_tidied law frame former tables stored k =
+    let s = meant frame tables in
+    let calm = elim frame.mode as (λ mode. ModeStands s mode → mode ≡ Calm) [ Calm ↦ λ h. refl | Both name schema fates ↦ λ h. let no : kind.Complete ≡ kind.Nothing = sym k ∙ h.no_steps in cc ] stored.stands.mode in
+    by_left calm (subst (λ by. StepsStand by frame.left) k stored.stands.steps)
+  where
+    by_left : frame.mode ≡ Calm → (frame.left ≡ 2) ⊎ (frame.left ≡ 1) → IsTidied (frame.left == 2) frame former tables
+    by_left m (inl l) = subst (λ two. IsTidied two frame former tables) (sym (ap (λ n. n == 2) l)) (second law frame former tables stored m l)
+    by_left m (inr l) = subst (λ two. IsTidied two frame former tables) (sym (ap (λ n. n == 2) l)) (third frame former tables stored m k l)
+
+-- ---- the whole
+
+pub same_parts : (f g : State) (a b : Option Former) (ts us : List StoredTable) → f ≡ g → a ≡ b → ts ≡ us → ◌≡◌ {A = Stored} (record { frame = f; former = a; tables = ts }) (record { frame = g; former = b; tables = us })
+same_parts f g a b ts us p q r = rw (p, q, r) refl
+
+-- The second step, or the third, goes as the machine's does.
+pub tidies : Below → (stored : Stored) → IsStored stored → stored.frame.kind ≡ kind.Complete
+    → Goes stored (complete (meaning stored)) (Ok (Complete (tidied_number stored.frame))) (tidied_parts stored) × AreKept (tidied_parts stored)
+tidies law stored is k =
+    let s = meaning stored in
+    let next = is_tidied law stored.frame stored.former stored.tables is k in
+    let second = record s { left = 1; tables = map table_without_loss s.tables; lost_columns = [] } in
+    let third = record s { left = 0; kind = kind.Nothing } in
+    let reply = elim (stored.frame.left == 2) as (λ two. Complete (if two then 2 else 3) ≡ (if two then stepped 2 second else stepped 3 third).reply) [ true ↦ refl | false ↦ refl ] in
+    let after = elim (stored.frame.left == 2) as (λ two. (if two then second else third) ≡ (if two then stepped 2 second else stepped 3 third).after) [ true ↦ refl | false ↦ refl ] in
+    ((tidied s, rw k refl, reply, next.means ∙ after), next.kept)

@@ -1,41 +1,16 @@
 -- Stored tables, and the tables of the state that they mean.
-use Rattle.std.proofs.Common.{arith, Result, Ok, Err, OnErr, ◌+◌, ◌≡◌, ◌≤◌, ◌<◌, ◌==◌, ◌∙◌, ℕ, zero, suc, List, [], ◌∷◌, Bool, true, false, Option, Some, find, if◌then◌else◌, length, map, nat_eq, ap, refl, sym, subst, option_map, option_and_then, le_of_eq}
-use Rattle.std.specs.Prelude.{slice_get, slice_index_or, slice_set, sum_by}
-use Rattle.std.specs.List.{AllByRecursion, list_all, list_any}
-use Rattle.std.specs.Option.{option_map_or}
-use Rattle.std.specs.FinMap as finite
-use Rattle.std.proofs.lemmas.Bool.Decides.{nat_tests}
-use Rattle.std.proofs.lemmas.List.{length-map}
-use Rattle.std.proofs.lemmas.List.Sums.{sum_by-cons}
-use Rattle.row_rules.specs.declared.kinds.Change.{Change}
-use Rattle.sql_base.specs.Laws.{both, some_same}
-use Rattle.mig_lens.specs.Plan.{Table, table_numbered}
-use Rattle.row_rules.specs.declared.kinds.Kept.{Kept}
-use Rattle.row_rules.specs.Site.{Site, number_of}
-use Rattle.machine.specs.declared.states.Mode.{Mode}
-use Rattle.machine.specs.declared.states.Mode.TheVariants.{Calm, Both}
-use Rattle.machine.specs.declared.states.State.{State}
-use Rattle.machine.specs.Migrate.{numbers_of}
-use Rattle.machine.specs.Standing.{IsState, ModeStands, NumbersAscend}
-use Rattle.machine.specs.State.{newer_schema, row_count, rows_of, table_on, with_rows}
-use Rattle.machine.specs.Words.{New, Old, Side}
-use Rattle.roll_core.specs.declared.store.StoredTable.{StoredTable as OwnTable}
-use Rattle.roll_core.specs.Running.{IsSite, Runs, meant, numbers_in, stored_count}
-use Rattle.roll_core.specs.Changing.{changed, with_changes}
-use Rattle.roll_core.specs.Seen.{row_count as own_count, seen}
-use Rattle.roll_core.specs.Store.{StoredTable, kept, rows_meant, table_meant}
+use Rattle.roll_core.proofs.Words.{Below, ◌||◌, map-set, slice_get-get_or, slice_get-map, SameForms, FormSuits, Own, Paired, Left, Trimmed, Form, lost_columns_of, arith, Result, Ok, Err, OnErr, ◌+◌}
+use Rattle.roll_core.proofs.Words.{◌≡◌, ◌≤◌, ◌<◌, ◌==◌, ◌∙◌, ℕ, zero, suc, List, [], ◌∷◌, Bool, true, false, Some, find, if◌then◌else◌, length, map, nat_eq, ap, refl, sym, subst, option_map}
+use Rattle.roll_core.proofs.Words.{option_and_then, le_of_eq, slice_get, slice_index_or, slice_set, sum_by, AllByRecursion, list_all, list_any, option_map_or, nat_tests, length-map, sum_by-cons}
+use Rattle.roll_core.proofs.Words.{Change, both, some_same, Table, table_numbered, Kept, Site, number_of, Calm, Both, State, numbers_of, IsState, ModeStands, NumbersAscend, newer_schema, rows_of}
+use Rattle.roll_core.proofs.Words.{table_on, with_rows, New, Old, Side, OwnTable, IsSite, Runs, meant, numbers_in, stored_count, changed, with_changes, own_count, seen, StoredTable, kept, rows_meant}
+use Rattle.roll_core.proofs.Words.{table_meant}
+use Rattle.roll_core.proofs.Words.finite
 
 -- ---- elements
 
-pub is_got : {X : Type 0} (xs : List X) (at : ℕ) (d : X) → at < length xs → slice_get xs at ≡ Some (slice_index_or xs at d)
-is_got [] at d h = absurd (omega (arith, h))
-is_got (first ∷ xs) zero d h = refl
-is_got (first ∷ xs) (suc at) d h = is_got xs at d (omega (arith, h))
-
 pub got_mapped : {X Y : Type 0} (f : X → Y) (xs : List X) (at : ℕ) (x : X) → slice_get xs at ≡ Some x → slice_get (map f xs) at ≡ Some (f x)
-got_mapped f [] at x e = cc
-got_mapped f (first ∷ xs) zero x e = ap (λ y. Some (f y)) (some_same first x e)
-got_mapped f (first ∷ xs) (suc at) x e = got_mapped f xs at x e
+got_mapped f xs at x e = slice_get-map f xs at ∙ ap (option_map f) e
 
 pub all_at : {X : Type 0} (P : X → Type 0) (xs : List X) (at : ℕ) (x : X) → AllByRecursion P xs → slice_get xs at ≡ Some x → P x
 all_at P [] at x h e = cc
@@ -47,6 +22,23 @@ all_set P [] at x h p = tt
 all_set P (first ∷ xs) zero x h p = (p, h.1)
 all_set P (first ∷ xs) (suc at) x h p = (h.0, all_set P xs at x h.1 p)
 
+-- What holds of the one at each place holds of each.
+pub each_place : {X : Type 0} (P : X → Type 0) (xs : List X) → ((at : ℕ) (x : X) → slice_get xs at ≡ Some x → P x) → AllByRecursion P xs
+each_place P [] h = tt
+each_place P (x ∷ xs) h = (h 0 x refl, each_place P xs (λ at y e. h (suc at) y e))
+
+pub each_of : {X : Type 0} {P Q : X → Type 0} → ((x : X) → P x → Q x) → (xs : List X) → AllByRecursion P xs → AllByRecursion Q xs
+each_of h [] p = tt
+each_of h (x ∷ xs) p = (h x p.0, each_of h xs p.1)
+
+pub each_all : {X : Type 0} {P : X → Type 0} → ((x : X) → P x) → (xs : List X) → AllByRecursion P xs
+each_all h [] = tt
+each_all h (x ∷ xs) = (h x, each_all h xs)
+
+pub each_mapped : {X Y : Type 0} {P : X → Type 0} (f : X → Y) (Q : Y → Type 0) → ((x : X) → P x → Q (f x)) → (xs : List X) → AllByRecursion P xs → AllByRecursion Q (map f xs)
+each_mapped f Q h [] p = tt
+each_mapped f Q h (x ∷ xs) p = (h x p.0, each_mapped f Q h xs p.1)
+
 -- The table at a place that was read.
 pub record IsRead (tables : List StoredTable) (at number : ℕ) (table : StoredTable) : Type 0 where
   pub here : slice_get tables at ≡ Some table
@@ -54,7 +46,7 @@ pub record IsRead (tables : List StoredTable) (at number : ℕ) (table : StoredT
 
 pub read_at : (tables : List OwnTable) (at number : ℕ) (d table : OwnTable) → at < length tables → option_map (λ table. table.number) (slice_get tables at) ≡ Some number → table ≡ slice_index_or tables at d → IsRead (map seen tables) at number (seen table)
 read_at tables at number d table h n e =
-    let got : slice_get tables at ≡ Some table = is_got tables at d h ∙ ap Some (sym e) in
+    let got : slice_get tables at ≡ Some table = slice_get-get_or tables at d h ∙ ap Some (sym e) in
     record { here = got_mapped seen tables at table got; numbered = some_same table.number number (ap (option_map (λ (t : OwnTable). t.number)) (sym got) ∙ n) }
 
 -- ---- numbers
@@ -76,22 +68,11 @@ behind first [] at table a e = cc
 behind first (next ∷ tables) zero table a e = let same : next ≡ table = cc in subst (λ (t : StoredTable). first < t.number) same a.0
 behind first (next ∷ tables) (suc at) table a e = let more = behind next.number tables at table a.1 e in let less = a.0 in omega (arith, more, less)
 
-found_at : (tables : List StoredTable) (at : ℕ) (table : StoredTable) → NumbersAscend (numbers_in tables) → slice_get tables at ≡ Some table → find (λ other. other.0 == table.number) (map table_meant tables) ≡ Some (table_meant table)
-found_at [] at table a e = cc
-found_at (first ∷ tables) zero table a e =
-    let same : first ≡ table = cc in
-    let number : first.number ≡ table.number = ap (λ (t : StoredTable). t.number) same in
-    let is : (first.number == table.number) ≡ true = grind (arith, nat_tests) in
-    rw is (ap (λ t. Some (table_meant t)) same)
-found_at (first ∷ tables) (suc at) table a e =
-    let less = behind first.number tables at table a e in
-    let differ : (first.number == table.number) ≡ false = grind (arith, nat_tests) in
-    rw differ (found_at tables at table (rest_ascends first.number (numbers_in tables) a) e)
-
 -- The rows of the table at a place are those of its number.
-pub rows_of-read : (frame : State) (tables : List StoredTable) (at number : ℕ) (table : StoredTable) → IsState (meant frame tables) → IsRead tables at number table → rows_of (meant frame tables) number ≡ rows_meant table
-rows_of-read frame tables at number table stands r =
-    ap (rows_of (meant frame tables)) (sym r.numbered) ∙ ap (λ (o : Option (ℕ × List Kept)). option_map_or (λ table. table.1) o []) (found_at tables at table (ascend frame tables stands) r.here)
+pub rows_of-read : Below → (frame : State) (tables : List StoredTable) (at number : ℕ) (table : StoredTable) → IsState (meant frame tables) → IsRead tables at number table → rows_of (meant frame tables) number ≡ rows_meant table
+rows_of-read law frame tables at number table stands r =
+    let s = meant frame tables in
+    ap (rows_of s) (sym r.numbered) ∙ all_at (λ (t : ℕ × List Kept). rows_of s t.0 ≡ t.1) s.tables at (table_meant table) (law.own_rows s stands) (got_mapped table_meant tables at table r.here)
 
 -- ---- the table of a site is stored
 
@@ -99,21 +80,16 @@ among : (numbers : List ℕ) (number : ℕ) (tables : List Table) (table : Table
 among numbers number [] table h e = cc
 among numbers number (first ∷ tables) table h e =
     let parts = both (list_any (nat_eq (number_of first)) numbers) (list_all (λ (table : Table). list_any (nat_eq (number_of table)) numbers) tables) h in
-    by_test parts.0 (among numbers number tables table parts.1) (first.1 == number) refl e
-  where
-    by_test : list_any (nat_eq (number_of first)) numbers ≡ true → (find {X = Table} (λ table. table.1 == number) tables ≡ Some table → list_any (nat_eq number) numbers ≡ true) → (b : Bool) → (first.1 == number) ≡ b → (if b then Some first else find {X = Table} (λ table. table.1 == number) tables) ≡ Some table → list_any (nat_eq number) numbers ≡ true
-    by_test here there true k e =
-        let same : first.1 ≡ number = grind (arith, nat_tests) in
-        subst (λ n. list_any (nat_eq n) numbers ≡ true) same here
-    by_test here there false k e = there e
-
-newer_among : (s : State) (mode : Mode) → ModeStands s mode → (number : ℕ) (table : Table) → option_and_then (λ schema. table_numbered schema number) (newer_schema mode) ≡ Some table → list_any (nat_eq number) (numbers_of s) ≡ true
-newer_among s Calm h number table e = cc
-newer_among s (Both name schema fates) h number table e = among (numbers_of s) number schema.tables table h.version.rows e
+    elim (first.1 == number) as (λ b. (first.1 == number) ≡ b → (if b then Some first else find {X = Table} (λ table. table.1 == number) tables) ≡ Some table → list_any (nat_eq number) numbers ≡ true) [
+      | true ↦ λ k e. let same : first.1 ≡ number = grind (arith, nat_tests) in subst (λ n. list_any (nat_eq n) numbers ≡ true) same parts.0
+      | false ↦ λ k e. among numbers number tables table parts.1 e
+    ] refl e
 
 side_among : (s : State) → IsState s → (side : Side) (number : ℕ) (table : Table) → table_on s side number ≡ Some table → list_any (nat_eq number) (numbers_of s) ≡ true
 side_among s stands Old number table e = among (numbers_of s) number s.schema.tables table stands.version.rows e
-side_among s stands New number table e = newer_among s s.mode stands.mode number table e
+side_among s stands New number table e =
+    elim s.mode as (λ mode. ModeStands s mode → option_and_then (λ schema. table_numbered schema number) (newer_schema mode) ≡ Some table → list_any (nat_eq number) (numbers_of s) ≡ true)
+    [ Calm ↦ λ h e. cc | Both name schema fates ↦ λ h e. among (numbers_of s) number schema.tables table h.version.rows e ] stands.mode e
 
 on_meant : (frame : State) (tables : List StoredTable) (side : Side) (number : ℕ) → table_on (meant frame tables) side number ≡ table_on frame side number
 on_meant frame tables Old number = refl
@@ -127,6 +103,18 @@ site_there frame tables site runs there =
     let is = subst (λ ns. list_any (nat_eq number) ns ≡ true) (numbers_of-meant frame tables) (side_among (meant frame tables) runs.stands found.side number found.table on) in
     subst (λ (s : Site). list_any (nat_eq (number_of s.here)) (numbers_in tables) ≡ true) (sym there.1) is
 
+pub own_number : (tables : List StoredTable) (at : ℕ) (table : StoredTable) → slice_get tables at ≡ Some table → list_any (nat_eq table.number) (numbers_in tables) ≡ true
+own_number [] at table e = cc
+own_number (first ∷ tables) zero table e = let same : first ≡ table = some_same first table e in let is : first.number ≡ table.number = ap (λ (t : StoredTable). t.number) same in grind (arith, nat_tests)
+own_number (first ∷ tables) (suc at) table e = later (nat_eq table.number first.number) (own_number tables at table e)
+  where
+    later : (b : Bool) → list_any (nat_eq table.number) (numbers_in tables) ≡ true → (b || list_any (nat_eq table.number) (numbers_in tables)) ≡ true
+    later true h = refl
+    later false h = h
+
+pub none_lost : (frame : State) (number : ℕ) → frame.lost_columns ≡ [] → lost_columns_of frame number ≡ 0
+none_lost frame number e = ap (λ (lost : List (ℕ × ℕ)). option_map_or (λ lost. lost.1) (find (λ lost. lost.0 == number) lost) 0) e
+
 -- ---- another table in its place
 
 pub on_err : {X E : Type 0} (r : Result X E) (P : Type 0) → P → OnErr r P
@@ -138,20 +126,21 @@ set_got [] at x e = cc
 set_got (first ∷ xs) zero x e = ap (λ y. y ∷ xs) (sym (some_same first x e))
 set_got (first ∷ xs) (suc at) x e = ap (λ ys. first ∷ ys) (set_got xs at x e)
 
-pub set_mapped : {X Y : Type 0} (f : X → Y) (xs : List X) (at : ℕ) (x : X) → map f (slice_set xs at x) ≡ slice_set (map f xs) at (f x)
-set_mapped f [] at x = refl
-set_mapped f (first ∷ xs) zero x = refl
-set_mapped f (first ∷ xs) (suc at) x = ap (λ ys. f first ∷ ys) (set_mapped f xs at x)
-
 pub set_same : (tables : List OwnTable) (at : ℕ) (d table new : OwnTable) → at < length tables → table ≡ slice_index_or tables at d → seen new ≡ seen table → map seen (slice_set tables at new) ≡ map seen tables
 set_same tables at d table new h e is =
-    let got = got_mapped seen tables at table (is_got tables at d h ∙ ap Some (sym e)) in
-    set_mapped seen tables at new ∙ ap (slice_set (map seen tables) at) is ∙ set_got (map seen tables) at (seen table) got
+    let got = got_mapped seen tables at table (slice_get-get_or tables at d h ∙ ap Some (sym e)) in
+    map-set seen tables at new ∙ ap (slice_set (map seen tables) at) is ∙ set_got (map seen tables) at (seen table) got
 
 pub set_changed : (tables : List OwnTable) (at : ℕ) (d table new : OwnTable) (changes : List Change) → at < length tables → table ≡ slice_index_or tables at d → seen new ≡ changed changes table → Some (map seen (slice_set tables at new)) ≡ with_changes at changes tables
 set_changed tables at d table new changes h e is =
-    let got : slice_get tables at ≡ Some table = is_got tables at d h ∙ ap Some (sym e) in
-    ap Some (set_mapped seen tables at new ∙ ap (slice_set (map seen tables) at) is) ∙ ap (option_map (λ table. slice_set (map seen tables) at (changed changes table))) (sym got)
+    let got : slice_get tables at ≡ Some table = slice_get-get_or tables at d h ∙ ap Some (sym e) in
+    ap Some (map-set seen tables at new ∙ ap (slice_set (map seen tables) at) is) ∙ ap (option_map (λ table. slice_set (map seen tables) at (changed changes table))) (sym got)
+
+pub same_forms : (tables : List StoredTable) (at : ℕ) (table new : StoredTable) → slice_get tables at ≡ Some table → new.number ≡ table.number → new.form ≡ table.form → SameForms tables (slice_set tables at new)
+same_forms tables at table new e n f =
+    let form : StoredTable → ℕ × Form = λ t. (t.number, t.form) in
+    let here : form new ≡ form table = rw (n, f) refl in
+    map-set form tables at new ∙ ap (slice_set (map form tables) at) here ∙ set_got (map form tables) at (form table) (got_mapped form tables at table e)
 
 -- a table whose number is another one is as it was
 abbrev replaced : ℕ → List Kept → ℕ × List Kept → ℕ × List Kept
@@ -187,9 +176,15 @@ pub with_rows-set : (frame : State) (tables : List StoredTable) (at number : ℕ
 with_rows-set frame tables at number rows table new stands r is =
     ap (λ (ts : List (ℕ × List Kept)). record frame { tables = ts }) (with_set number rows tables at table new (ascend frame tables stands) r.here r.numbered is)
 
+pub suits_meant : (frame : State) (tables : List StoredTable) (number : ℕ) (form : Form) → FormSuits frame number form → FormSuits (meant frame tables) number form
+suits_meant frame tables number Own h = h
+suits_meant frame tables number (Paired pair) h = record { both = h.both; shares = h.shares; over = h.over; is_pair = h.is_pair }
+suits_meant frame tables number (Left pair) h = record { calm = h.calm; is_pair = h.is_pair; shape = h.shape }
+suits_meant frame tables number (Trimmed pair) h = record { calm = h.calm; is_pair = h.is_pair; shape = h.shape }
+
 -- ---- the number of rows
 
-count_meant : (tables : List StoredTable) → sum_by (λ table. length table.1) (map table_meant tables) ≡ stored_count tables
+pub count_meant : (tables : List StoredTable) → sum_by (λ table. length table.1) (map table_meant tables) ≡ stored_count tables
 count_meant [] = refl
 count_meant (table ∷ tables) =
     let one = sum_by-cons (λ (table : ℕ × List Kept). length table.1) (table_meant table) (map table_meant tables) in
@@ -197,9 +192,6 @@ count_meant (table ∷ tables) =
     let same = length-map table.rows (kept table.form) in
     let there = count_meant tables in
     omega (arith, one, other, same, there)
-
-pub row_count-meant : (frame : State) (tables : List StoredTable) → row_count (meant frame tables) ≡ stored_count tables
-row_count-meant frame tables = count_meant tables
 
 pub count_seen : (tables : List OwnTable) → stored_count (map seen tables) ≡ own_count tables
 count_seen [] = refl

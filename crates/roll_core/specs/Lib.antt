@@ -1,4 +1,5 @@
 pub mod Batch
+pub mod Below
 pub mod Changing
 pub mod Engine
 pub mod Running

@@ -1,10 +1,12 @@
 -- What the engine's own steps are promised, of the frame and the tables alone, and how they answer.
-use Rattle.std.specs.Prelude.{◌≡◌, ℕ, ◌+◌, Bool, true, false, List, Some, Result, Ok, Err, None, Option, if◌then◌else◌, length, map, nat_lt, sum_by}
+use Rattle.std.specs.Prelude.{◌≡◌, ℕ, ℤ, ◌+◌, Bool, true, false, List, Some, Result, Ok, Err, None, Option, if◌then◌else◌, length, map, nat_lt, sum_by}
 use Rattle.std.specs.Option.{option_map, option_or}
 use Rattle.sql_base.specs.Outcome.{and_then}
 use Rattle.row_rules.specs.Causes.{row_error}
 use Rattle.row_rules.specs.Changes.{changes, refused_together}
 use Rattle.row_rules.specs.Outcome.{guarded, map_fault}
+use Rattle.row_rules.specs.Reach.{reach}
+use Rattle.sql_base.specs.declared.shapes.Shape.{Shape}
 use Rattle.std.specs.List.{AllByRecursion}
 use Rattle.row_rules.specs.declared.kinds.Change.{Change}
 use Rattle.row_rules.specs.declared.kinds.Job.{Job}
@@ -108,6 +110,13 @@ abbrev pub accepted : StoredTable → ℕ → Site → Job → Result (List Chan
 accepted table count site what =
     and_then (map_fault (λ cause. error_reply (row_error cause)) (changes site what (rows_meant table)))
     (λ all. guarded (refused_all table count site what all) (Ok all))
+
+-- The one key that a statement's job reaches, where its WHERE names one. An INSERT looks at keys alone.
+abbrev pub job_reach : Shape → Job → Option ℤ
+job_reach shape (job.Put rows) = None
+job_reach shape (job.Alter sets condition) = reach shape condition
+job_reach shape (job.Remove condition) = reach shape condition
+job_reach shape job.Fill = None
 
 -- A statement's job, and not a batch's.
 abbrev pub IsStatement : Job → Type 0

@@ -13,6 +13,7 @@ ghost use Rattle.roll_core.specs.Running as spec;
 ghost use Rattle.roll_core.specs.Seen.{seen};
 ghost use Rattle.roll_core.specs.Store.{rows_meant};
 
+use crate::laws::laws_below;
 use crate::store::StoredTable;
 use crate::writing::put_at;
 use machine::parts::{filling_site, may_not_fill, refused_batch, shared};
@@ -106,14 +107,7 @@ fn fill_at(
     requires job { job.now ≡ jobs.Fill }
     ensures { batch.Fills frame.now (map seen tables.old) (batch.batch_at frame.now (map seen tables.old) (Some at) n) result (map seen tables.new) }
 {
-    machine::laws::sites_stand();
-    machine::laws::carried_columns_agree();
-    trigger_pair::laws::pairs_are_long();
-    trigger_pair::laws::stored_rows_hold();
-    phase_steps::laws::left_rows_show_what_was_written();
-    phase_steps::laws::completing_changes_no_view();
-    phase_steps::laws::rows_are_stored_by_the_step();
-    row_store::laws::changes_keep_order();
+    laws_below();
     let Some(pair) = shared(frame, tables[at].number) else {
         return Ok(Reply::Filled);
     };
@@ -152,6 +146,7 @@ pub fn least_fill(
     ensures forms { spec.SameForms (map seen tables.old) (map seen tables.new) }
     ensures stored { AllByRecursion spec.RowsStored (map seen tables.new) }
 {
+    laws_below();
     if let Some(refusal) = may_not_fill(alloc, frame, n)? {
         return Err(Stop::Because(Reply::Refused(refusal)));
     }

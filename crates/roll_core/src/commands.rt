@@ -1,5 +1,5 @@
 //! The commands of a migration.
-ghost use Rattle.std.specs.Prelude.{◌≡◌, true, IfOk, OnErr, OnOk};
+ghost use Rattle.std.specs.Prelude.{◌≡◌, false, true, IfOk, OnErr, OnOk};
 ghost use Rattle.machine.specs.Laws.{leaves_all};
 ghost use Rattle.machine.specs.Step.{Step};
 ghost use Rattle.roll_core.specs.Engine.{command_outcome, event_of};
@@ -35,6 +35,7 @@ fn outcome(
 ) -> Result<Reply, Stop<Refusal>>
     requires { IsStored (parts frame.old former.old tables.old.items) }
     ensures goes { spec.Goes (parts frame.old former.old tables.old.items) (command_outcome (meaning (parts frame.old former.old tables.old.items)) cmd.now) result (parts frame.new former.new tables.new.items) }
+    ensures changes { IfOk result (λ reply. leaves_all reply ≡ false) }
     ensures stored { OnOk result (spec.DoneStores (parts frame.old former.old tables.old.items) cmd.now (parts frame.new former.new tables.new.items)) }
     ensures kept { spec.AreKept (parts frame.new former.new tables.new.items) }
 {

@@ -1,9 +1,10 @@
 //! COMPLETE: one step of a migration's completion.
-ghost use Rattle.std.specs.Prelude.{◌≡◌, IfOk, None, Ok, OnErr, OnOk, is_some, map};
+ghost use Rattle.std.specs.Prelude.{◌≡◌, false, IfOk, None, Ok, OnErr, OnOk, is_some, map};
 ghost use Rattle.std.specs.List.{filter_map};
 ghost use Rattle.mig_lens.specs.declared.faults.Kind.TheVariants as kind;
 ghost use Rattle.mig_lens.specs.Lens.{is_carry};
 ghost use Rattle.row_rules.specs.Outcome.{first_some};
+ghost use Rattle.machine.specs.Laws.{leaves_all};
 ghost use Rattle.machine.specs.Migrate as migrate;
 ghost use Rattle.roll_core.specs.Running.{meant};
 ghost use Rattle.roll_core.specs.Seen.{parts, seen};
@@ -11,6 +12,7 @@ ghost use Rattle.roll_core.specs.Stepping as spec;
 ghost use Rattle.roll_core.specs.Store as model;
 
 use crate::forms::Form;
+use crate::laws::laws_below;
 use crate::stepping::stepped_rows;
 use crate::store::{Former, StoredTable};
 use machine::parts::{lens_among, not_valid, shared, table_on};
@@ -277,13 +279,12 @@ fn tidied(
     requires stored { model.IsStored (parts frame.old former.old tables.old.items) }
     requires left { frame.old.kind ≡ kind.Complete }
     ensures goes { IfOk result (λ reply. spec.Goes (parts frame.old former.old tables.old.items) (migrate.complete (meant frame.old (map seen tables.old.items))) (Ok reply) (parts frame.new former.new tables.new.items)) }
+    ensures changes { IfOk result (λ reply. leaves_all reply ≡ false) }
     ensures stored { OnOk result (parts frame.new former.new tables.new.items ≡ spec.tidied_parts (parts frame.old former.old tables.old.items)) }
     ensures kept { spec.AreKept (parts frame.new former.new tables.new.items) }
     ensures err { OnErr result (parts frame.new former.new tables.new.items ≡ parts frame.old former.old tables.old.items) }
 {
-    trigger_pair::laws::paired_rows_are_long();
-    phase_steps::laws::completing_changes_no_view();
-    phase_steps::laws::rows_are_stored_by_the_step();
+    laws_below();
     let next = tidied_tables(alloc, tables)?;
     *tables = next;
     Ok(Reply::Complete(next_step(alloc, frame, former)))
@@ -300,10 +301,11 @@ fn finish(
     requires none { frame.old.kind ≡ kind.Nothing }
     requires active { migrate.inactive frame.old.mode ≡ None }
     ensures goes { spec.Goes (parts frame.old former.old tables.old.items) (migrate.complete (meant frame.old (map seen tables.old.items))) result (parts frame.new former.new tables.new.items) }
+    ensures changes { IfOk result (λ reply. leaves_all reply ≡ false) }
     ensures stored { OnOk result (parts frame.new former.new tables.new.items ≡ spec.left_parts (parts frame.old former.old tables.old.items)) }
     ensures kept { spec.AreKept (parts frame.new former.new tables.new.items) }
 {
-    trigger_pair::laws::paired_rows_are_long();
+    laws_below();
     if let Some(refusal) = may_not_complete(alloc, frame, tables)? {
         return Err(Stop::Because(refusal));
     }
@@ -323,6 +325,7 @@ pub fn complete(
 ) -> Result<Reply, Stop<Refusal>>
     requires { model.IsStored (parts frame.old former.old tables.old.items) }
     ensures goes { spec.Goes (parts frame.old former.old tables.old.items) (migrate.complete (meant frame.old (map seen tables.old.items))) result (parts frame.new former.new tables.new.items) }
+    ensures changes { IfOk result (λ reply. leaves_all reply ≡ false) }
     ensures stored { OnOk result (parts frame.new former.new tables.new.items ≡ spec.completed_parts (parts frame.old former.old tables.old.items)) }
     ensures kept { spec.AreKept (parts frame.new former.new tables.new.items) }
 {

@@ -11,6 +11,8 @@ mod commands;
 mod complete;
 mod engine;
 mod forms;
+mod laws;
+mod reach;
 mod start;
 mod statement;
 mod stepping;

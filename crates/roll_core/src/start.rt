@@ -1,6 +1,7 @@
 //! START: a migration is begun over what is stored.
-ghost use Rattle.std.specs.Prelude.{◌≡◌, IfOk, None, OnErr, OnOk, Option, map};
+ghost use Rattle.std.specs.Prelude.{◌≡◌, false, IfOk, None, OnErr, OnOk, Option, map};
 ghost use Rattle.std.specs.List.{list_any};
+ghost use Rattle.machine.specs.Laws.{leaves_all};
 ghost use Rattle.machine.specs.Migrate as migrate;
 ghost use Rattle.machine.specs.declared.events.Asked.TheVariants.{Read as Migrates};
 ghost use Rattle.row_rules.specs.Outcome.{Answers};
@@ -11,6 +12,7 @@ ghost use Rattle.roll_core.specs.Stepping as spec;
 ghost use Rattle.roll_core.specs.Store as model;
 
 use crate::forms::Form;
+use crate::laws::laws_below;
 use crate::stepping::stepped_rows;
 use crate::store::StoredTable;
 use machine::parts::{lens_among, may_not_start, numbered, planned};
@@ -155,13 +157,11 @@ fn start_read(
 ) -> Result<Reply, Stop<Refusal>>
     requires { spec.AreRun frame.old (map seen tables.old.items) }
     ensures goes { (former : Option Former) → spec.Goes (parts frame.old former tables.old.items) (migrate.start_read (meant frame.old (map seen tables.old.items)) m.now) result (parts frame.new former tables.new.items) }
+    ensures changes { IfOk result (λ reply. leaves_all reply ≡ false) }
     ensures stored { (former : Option Former) → OnOk result (spec.StartStores (parts frame.old former tables.old.items) (Migrates m.now) (parts frame.new former tables.new.items)) }
     ensures kept { (former : Option Former) → spec.AreKept (parts frame.old former tables.old.items) → spec.AreKept (parts frame.new former tables.new.items) }
 {
-    mig_lens::laws::planned_lenses_join();
-    mig_lens::laws::planned_schemas_are_well_formed();
-    trigger_pair::laws::begun_rows_hold();
-    trigger_pair::laws::stored_rows_are_paired();
+    laws_below();
     let plan = match startable(alloc, frame, tables, m) {
         Ok(plan) => plan,
         Err(stop) => return Err(stop),
@@ -181,6 +181,7 @@ pub fn start(
 ) -> Result<Reply, Stop<Refusal>>
     requires { spec.AreRun frame.old (map seen tables.old.items) }
     ensures goes { (former : Option Former) → spec.Goes (parts frame.old former tables.old.items) (migrate.start (meant frame.old (map seen tables.old.items)) asked.now) result (parts frame.new former tables.new.items) }
+    ensures changes { IfOk result (λ reply. leaves_all reply ≡ false) }
     ensures stored { (former : Option Former) → OnOk result (spec.StartStores (parts frame.old former tables.old.items) asked.now (parts frame.new former tables.new.items)) }
     ensures kept { (former : Option Former) → spec.AreKept (parts frame.old former tables.old.items) → spec.AreKept (parts frame.new former tables.new.items) }
 {

@@ -9,11 +9,13 @@ ghost use Rattle.machine.specs.Statement as statement;
 ghost use Rattle.roll_core.specs.Running as spec;
 ghost use Rattle.roll_core.specs.Seen.{seen};
 
+use crate::laws::laws_below;
+use crate::reach::shown_reached;
 use crate::store::StoredTable;
 use crate::writing::written;
 use machine::parts::{BegunRef, begun, error_reply};
 use machine::{Reply, State};
-use row_rules::{SiteRef, Stop, rows_shown};
+use row_rules::{SiteRef, Stop};
 use sql_base::{Expr, Items, Name, Stmt};
 use std::alloc::Global;
 
@@ -44,8 +46,9 @@ fn shown(
     requires there { spec.IsSite frame.now (sites.site_of site) }
     ensures { spec.Comes frame.now (map seen tables.now) (statement.shown (spec.meant frame.now (map seen tables.now)) (sites.site_of site.entry) items.now condition.now) result (map seen tables.now) }
 {
+    laws_below();
     let at = place_of(tables, site.here.1);
-    match rows_shown(alloc, site, items, condition, &tables[at]) {
+    match shown_reached(alloc, &tables[at], site, items, condition) {
         Ok(rows) => Ok(Reply::Select(rows)),
         Err(Stop::Because(error)) => Err(Stop::Because(error_reply(error))),
         Err(Stop::NoMemory) => Err(Stop::NoMemory),
@@ -65,7 +68,7 @@ pub fn answer(
     ensures forms { spec.SameForms (map seen tables.old) (map seen tables.new) }
     ensures stored { AllByRecursion spec.RowsStored (map seen tables.new) }
 {
-    machine::laws::sites_stand();
+    laws_below();
     match begun(alloc, frame, path, stmt)? {
         BegunRef::Writes(site, job) => written(alloc, frame, tables, site, &job),
         BegunRef::Shows(site, items, condition) => {

@@ -32,8 +32,8 @@ pub struct StoredTable {
     pub rows: RowStore,
 }
 
-// The row that is stored under a key.
-fn kept(alloc: Global, form: &Form, key: i64, values: &[Value]) -> Result<Kept, NoMemory>
+/// The row that is stored under a key. An error is want of memory.
+pub fn kept(alloc: Global, form: &Form, key: i64, values: &[Value]) -> Result<Kept, NoMemory>
     ensures { IfOk result (λ row. row ≡ spec.kept form.now (key, values.now)) }
 {
     let halves = halves_of(alloc, form, values)?;

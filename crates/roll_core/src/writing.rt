@@ -1,5 +1,6 @@
 //! Rows that a statement or a batch writes.
 ghost use Rattle.std.specs.Prelude.{◌≡◌, ◌≤◌, ◌<◌, ◌^◌, ◌-◌, None, Ok, Err, Some, IfOk, OnErr, OnOk, length, map, min, slice_get};
+ghost use Rattle.row_rules.specs.InReach.{ShowKeys};
 ghost use Rattle.row_rules.specs.Outcome.{Answers};
 ghost use Rattle.row_rules.specs.Site as sites;
 ghost use Rattle.std.specs.List.{AllByRecursion};
@@ -8,13 +9,16 @@ ghost use Rattle.machine.specs.Statement as statement;
 ghost use Rattle.roll_core.specs.Changing as changing;
 ghost use Rattle.roll_core.specs.Running as spec;
 ghost use Rattle.roll_core.specs.Seen.{row_count, seen};
+ghost use Rattle.roll_core.specs.Store.{rows_meant};
 
 use crate::changing::put_changes;
+use crate::laws::laws_below;
+use crate::reach::changes_reached;
 use crate::statement::place_of;
 use crate::store::StoredTable;
 use machine::parts::{MAX_ROWS, error_reply, row_reply, too_many_rows, written_reply};
 use machine::{Reply, State};
-use row_rules::{Change, Job, SiteRef, Stop, changes, refused_together};
+use row_rules::{Change, Job, SiteRef, Stop, refused_together};
 use sql_base::{List, NoMemory};
 use std::alloc::Global;
 
@@ -90,10 +94,11 @@ fn accepted_changes(
     site: SiteRef<'_>,
     job: &Job,
 ) -> Result<List<Change>, Stop<Reply>>
-    requires { count ≤ 262144 }
+    requires few { count ≤ 262144 }
+    requires shows { ShowKeys (sites.site_of site) (rows_meant (seen table.now)) }
     ensures { Answers (spec.accepted (seen table.now) count (sites.site_of site.entry) job.now) result }
 {
-    let made = match changes(alloc, site, job, table) {
+    let made = match changes_reached(alloc, table, site, job) {
         Ok(made) => made,
         Err(Stop::Because(cause)) => return Err(Stop::Because(row_reply(cause))),
         Err(Stop::NoMemory) => return Err(Stop::NoMemory),
@@ -120,14 +125,7 @@ pub fn written(
     ensures forms { spec.SameForms (map seen tables.old) (map seen tables.new) }
     ensures stored { AllByRecursion spec.RowsStored (map seen tables.new) }
 {
-    machine::laws::sites_stand();
-    machine::laws::carried_columns_agree();
-    trigger_pair::laws::pairs_are_long();
-    trigger_pair::laws::stored_rows_hold();
-    phase_steps::laws::left_rows_show_what_was_written();
-    phase_steps::laws::completing_changes_no_view();
-    phase_steps::laws::rows_are_stored_by_the_step();
-    row_store::laws::changes_keep_order();
+    laws_below();
     let at = place_of(tables, site.here.1);
     let count = row_count(tables);
     let made = accepted_changes(alloc, &tables[at], count, site, job)?;

@@ -1,6 +1,4 @@
-use Rattle.std.proofs.Common.{ap, map}
-use Rattle.roll_core.specs.Batch.{batch_at}
-use Rattle.roll_core.specs.Seen.{seen}
+use Rattle.roll_core.proofs.Words.{ap, map, batch_at, seen}
 use Rattle.roll_core.proofs.Filling.{none_filled}
 use Rattle.roll_core.proofs.batch.fill_first.Goals as goal
 

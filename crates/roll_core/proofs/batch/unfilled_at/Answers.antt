@@ -1,5 +1,5 @@
-use Rattle.std.proofs.Common.{◌∙◌, sym}
-use Rattle.roll_core.proofs.Unfilled.{found_here}
+use Rattle.roll_core.proofs.Words.{◌∙◌, sym}
+use Rattle.roll_core.proofs.Missing.{found_here}
 use Rattle.roll_core.proofs.batch.unfilled_at.Goals as goal
 
 pub returns-then-any_missing : goal.returns-then-any_missing

@@ -1,6 +1,4 @@
-use Rattle.std.proofs.Common.{◌≡◌, drop, find, map}
-use Rattle.roll_core.specs.Batch.{is_unfilled}
-use Rattle.roll_core.specs.Seen.{seen}
+use Rattle.roll_core.proofs.Words.{◌≡◌, drop, find, map, is_unfilled, seen}
 use Rattle.roll_core.proofs.batch.unfilled_at.Given as goal
 
 -- the first one is among those that are left

@@ -1,6 +1,5 @@
-use Rattle.std.proofs.Common.{arith, length, ap}
-use Rattle.roll_core.specs.Changing.{put_all}
-use Rattle.roll_core.proofs.Changed.{step_end, step_room}
+use Rattle.roll_core.proofs.Words.{arith, length, ap, put_all}
+use Rattle.roll_core.proofs.Rows.{step_end, step_room}
 use Rattle.roll_core.proofs.changing.put_all.Goals as goal
 
 pub put_stored-requires : goal.put_stored-requires

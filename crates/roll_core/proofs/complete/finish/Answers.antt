@@ -1,36 +1,32 @@
-use Rattle.std.proofs.Common.{◌≡◌, ◌∙◌, ◌++◌, List, Some, ap, drop, length, map, refl, sym, take}
+use Rattle.roll_core.proofs.Words.{Ok, subst, Goes, AreKept, Complete, complete, meaning, left_parts, ◌≡◌, ◌∙◌, ◌++◌, List, Some, ap, drop, length, map, refl, sym, take, take_at, parts, seen}
+use Rattle.roll_core.proofs.Words.{left_frame, left_table, lost_columns, may_not_complete, Stored}
 use Rattle.roll_core.specs.declared.store.StoredTable.{StoredTable}
-use Rattle.roll_core.specs.Seen.{parts, seen}
-use Rattle.roll_core.specs.Stepping.{left_frame, left_table, lost_columns, may_not_complete}
-use Rattle.roll_core.specs.Store.{Stored}
-use Rattle.roll_core.proofs.Leaving.{Finishes, finish_goes, finish_keeps, finish_refused, finish_stored, written_back}
+use Rattle.roll_core.proofs.Leaving.{finish_refused, finishes}
+use Rattle.roll_core.proofs.Stepped.{same_parts}
 use Rattle.roll_core.proofs.complete.finish.Goals as goal
 
 pub returns-in-Some-clause-goes : goal.returns-in-Some-clause-goes
 returns-in-Some-clause-goes c =
     let tables = map seen c.args.tables.now.items in
     let may : may_not_complete c.args.frame.now tables ≡ Some c.in-Some.refusal = ap (λ (ts : List StoredTable). may_not_complete c.args.frame.now (map seen ts)) (sym c.deref.ensures.value) ∙ sym c.in_ok-refusal.ensures ∙ c.in-Some.is in
-    (finish_refused c.args.frame.now tables c.in-Some.refusal c.requires.stored.stands c.requires.none c.requires.active may, refl {a = parts c.args.frame.now c.args.former.now c.args.tables.now.items})
+    (finish_refused c.laws_below.ensures c.args.frame.now tables c.in-Some.refusal c.requires.stored.stands c.requires.none c.requires.active may, refl {a = parts c.args.frame.now c.args.former.now c.args.tables.now.items})
 
 pub returns : goal.returns
 returns c =
     let frame = c.args.frame.now in
     let before = c.args.tables.now.items in
-    let tables = map seen before in
+    let old : Stored = parts frame c.args.former.now before in
     let after = c.leave_all.new.tables in
     let items = take c.args.tables.now.len (after ++ drop (length after) before) in
-    let long : length after ≡ length before = c.leave_all.auto.tables ∙ ap length c.deref_mut.ensures.value in
-    let same : items ≡ after = written_back before after c.args.tables.now.len (sym c.deref_mut.ensures.len ∙ sym c.leave_all.auto.tables) long in
-    let new : Stored = parts c.left_frame.new.frame c.left_frame.result items in
-    let finishes : Finishes frame tables new = record {
-      may = ap (λ (ts : List StoredTable). may_not_complete frame (map seen ts)) (sym c.deref.ensures.value) ∙ sym c.in_ok-refusal.ensures ∙ c.in_default.is;
-      is_frame = c.left_frame.ensures.frame ∙ ap (λ lost. left_frame lost frame) (c.in_ok-lost.ensures ∙ ap (λ (ts : List StoredTable). lost_columns frame.mode (map seen ts)) c.deref-2.ensures.value);
-      is_former = c.left_frame.ensures.former;
-      is_tables = ap (map seen) same ∙ c.leave_all.ensures ∙ ap (λ (ts : List StoredTable). map left_table (map seen ts)) c.deref_mut.ensures.value;
-    } in
-    let law = c.paired_rows_are_long.ensures.unfilled in
+    let same : items ≡ after = take_at after (drop (length after) before) c.args.tables.now.len (c.leave_all.auto.tables ∙ c.deref_mut.ensures.len) in
+    let is_frame = c.left_frame.ensures.frame ∙ ap (λ lost. left_frame lost frame) (c.in_ok-lost.ensures ∙ ap (λ (ts : List StoredTable). lost_columns frame.mode (map seen ts)) c.deref-2.ensures.value) in
+    let is_tables = ap (map seen) same ∙ c.leave_all.ensures ∙ ap (λ (ts : List StoredTable). map left_table (map seen ts)) c.deref_mut.ensures.value in
+    let is : parts c.left_frame.new.frame c.left_frame.result items ≡ left_parts old = same_parts c.left_frame.new.frame _ c.left_frame.result _ (map seen items) _ is_frame c.left_frame.ensures.former is_tables in
+    let may = ap (λ (ts : List StoredTable). may_not_complete frame (map seen ts)) (sym c.deref.ensures.value) ∙ sym c.in_ok-refusal.ensures ∙ c.in_default.is in
+    let step = finishes c.laws_below.ensures old c.requires.stored c.requires.none c.requires.active may in
     record {
-      goes = finish_goes law frame c.args.former.now tables new c.requires.stored c.requires.none c.requires.active finishes;
-      stored = finish_stored frame c.args.former.now tables new finishes;
-      kept = finish_keeps law frame c.args.former.now tables new c.requires.stored c.requires.active finishes;
+      goes = subst (Goes old (complete (meaning old)) (Ok (Complete 1))) (sym is) step.0;
+      stored = is;
+      changes = refl;
+      kept = subst AreKept (sym is) step.1;
     }

@@ -1,8 +1,5 @@
-use Rattle.std.proofs.Common.{◌≡◌, drop, map}
-use Rattle.row_rules.specs.Outcome.{first_some}
-use Rattle.roll_core.specs.Seen.{seen}
-use Rattle.roll_core.specs.Stepping as spec
+use Rattle.roll_core.proofs.Words.{invalid_in, ◌≡◌, drop, map, first_some, seen}
 use Rattle.roll_core.proofs.complete.invalid.Given as goal
 
 abbrev pub invariant-loop-table : goal.invariant-loop-table
-invariant-loop-table l = first_some (spec.invalid_in l.frame) (map seen (drop l.table-index l.tables)) ≡ first_some (spec.invalid_in l.frame) (map seen l.tables)
+invariant-loop-table l = first_some (invalid_in l.frame) (map seen (drop l.table-index l.tables)) ≡ first_some (invalid_in l.frame) (map seen l.tables)

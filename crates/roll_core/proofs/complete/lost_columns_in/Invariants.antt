@@ -1,7 +1,4 @@
-use Rattle.std.proofs.Common.{◌≡◌, ◌+◌, ◌≤◌, drop, length, not}
-use Rattle.std.specs.List.{filter}
-use Rattle.mig_lens.specs.Lens.{is_carry}
-use Rattle.machine.specs.Migrate.{lost_columns_in}
+use Rattle.roll_core.proofs.Words.{◌≡◌, ◌+◌, ◌≤◌, drop, length, not, filter, is_carry, lost_columns_in}
 use Rattle.roll_core.proofs.complete.lost_columns_in.Given as goal
 
 abbrev pub invariant-loop-cell : goal.invariant-loop-cell

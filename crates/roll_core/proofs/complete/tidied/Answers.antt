@@ -1,21 +1,19 @@
-use Rattle.std.proofs.Common.{◌∙◌, ap, map}
-use Rattle.roll_core.specs.Seen.{parts, seen}
-use Rattle.roll_core.specs.Stepping.{tidied_table}
-use Rattle.roll_core.specs.Store.{Stored}
-use Rattle.roll_core.proofs.Tidying.{Tidies, TrimmingHolds, tidied_goes, tidied_keeps, tidied_stored}
+use Rattle.roll_core.proofs.Words.{◌≡◌, Ok, sym, subst, Goes, AreKept, Complete, complete, meaning, tidied_parts, ◌∙◌, ap, map, refl, List, parts, seen, tidied_table, Stored}
 use Rattle.roll_core.specs.declared.store.StoredTable.{StoredTable}
-use Rattle.std.proofs.Common.{List}
+use Rattle.roll_core.proofs.Stepped.{same_parts, tidies}
 use Rattle.roll_core.proofs.complete.tidied.Goals as goal
 
 pub returns : goal.returns
 returns c =
-    let law : TrimmingHolds = record { shown = c.completing_changes_no_view.ensures.trimmed; trimmed = c.rows_are_stored_by_the_step.ensures.trimmed; long = c.paired_rows_are_long.ensures.filled } in
-    let tables = map seen c.args.tables.now.items in
+    let old : Stored = parts c.args.frame.now c.args.former.now c.args.tables.now.items in
+    let tables = c.in_ok-next.ensures ∙ ap (λ (ts : List StoredTable). map tidied_table (map seen ts)) c.deref.ensures.value in
     let new : Stored = parts c.next_step.new.frame c.next_step.new.former c.in_ok-next.next.items in
-    let tidies : Tidies c.args.frame.now c.args.former.now tables new = record { is_frame = c.next_step.ensures.frame; is_former = c.next_step.ensures.former; is_tables = c.in_ok-next.ensures ∙ ap (λ (ts : List StoredTable). map tidied_table (map seen ts)) c.deref.ensures.value } in
+    let is : new ≡ tidied_parts old = same_parts c.next_step.new.frame _ c.next_step.new.former _ (map seen c.in_ok-next.next.items) _ c.next_step.ensures.frame c.next_step.ensures.former tables in
+    let next = tidies c.laws_below.ensures old c.requires.stored c.requires.left in
     record {
-      goes = tidied_goes law c.args.frame.now c.args.former.now tables new c.next_step.result c.requires.stored c.requires.left tidies c.next_step.ensures.number;
-      stored = tidied_stored c.args.frame.now c.args.former.now tables new tidies;
-      kept = tidied_keeps law c.args.frame.now c.args.former.now tables new c.requires.stored c.requires.left tidies;
+      goes = subst (Goes old (complete (meaning old)) (Ok (Complete c.next_step.result))) (sym is) (rw c.next_step.ensures.number next.0);
+      stored = is;
+      changes = refl;
+      kept = subst AreKept (sym is) next.1;
       err = tt;
     }

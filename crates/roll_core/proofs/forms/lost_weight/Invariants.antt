@@ -1,5 +1,5 @@
-use Rattle.std.proofs.Common.{◌≡◌, ◌+◌, drop}
-use Rattle.machine.specs.Migrate as migrate
+use Rattle.roll_core.proofs.Words.{◌≡◌, ◌+◌, drop}
+use Rattle.roll_core.proofs.Words.migrate
 use Rattle.roll_core.proofs.forms.lost_weight.Given as goal
 
 -- the weight so far and that of the values that are left are the whole

@@ -1,8 +1,4 @@
-use Rattle.std.proofs.Common.{◌≡◌, drop, map}
-use Rattle.std.specs.List.{list_any}
-use Rattle.machine.specs.Migrate.{has_heavy}
-use Rattle.roll_core.specs.Seen.{seen}
-use Rattle.roll_core.specs.Store.{table_meant}
+use Rattle.roll_core.proofs.Words.{◌≡◌, drop, map, list_any, has_heavy, seen, table_meant}
 use Rattle.roll_core.proofs.start.any_heavy.Given as goal
 
 abbrev pub invariant-loop-table : goal.invariant-loop-table

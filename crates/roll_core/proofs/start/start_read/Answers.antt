@@ -1,11 +1,8 @@
-use Rattle.std.proofs.Common.{◌≡◌, Err, List, Ok, map, subst}
-use Rattle.machine.specs.Migrate.{start_read}
-use Rattle.row_rules.specs.Outcome.{Answers}
+use Rattle.roll_core.proofs.Words.{sym, Option, Former, Goes, AreKept, ◌≡◌, Err, List, Ok, map, refl, subst, start_read, Answers, meant, parts, seen, startable}
 use Rattle.roll_core.specs.declared.store.StoredTable.{StoredTable}
-use Rattle.roll_core.specs.Running.{meant}
-use Rattle.roll_core.specs.Seen.{parts, seen}
-use Rattle.roll_core.specs.Stepping.{startable}
-use Rattle.roll_core.proofs.Starting.{BeginningHolds, Leaves, start_goes, start_keeps, start_refused, start_stores, stops}
+use Rattle.roll_core.proofs.Starting.{start_refused, startable_ok, starts, stops}
+use Rattle.roll_core.proofs.Stepped.{same_parts}
+use Rattle.roll_core.proofs.Words.reply_of
 use Rattle.roll_core.proofs.start.start_read.Goals as goal
 
 pub returns-in-Err-clause-goes : goal.returns-in-Err-clause-goes
@@ -15,12 +12,18 @@ returns-in-Err-clause-goes c former =
 
 pub returns : goal.returns
 returns c =
-    let law : BeginningHolds = record { shown = c.begun_rows_hold.ensures; left = c.stored_rows_are_paired.ensures.begun; join = c.planned_lenses_join.ensures.join; schemas = c.planned_schemas_are_well_formed.ensures } in
+    let frame = c.args.frame.now in
+    let m = c.args.m.now in
     let tables = map seen c.args.tables.now.items in
     let new = map seen c.begin.new.tables.items in
-    let leaves : Leaves c.args.frame.now tables c.args.m.now c.in-Ok.plan c.begin.new.frame new = record { by = subst (λ (ts : List StoredTable). startable (meant c.args.frame.now (map seen ts)) c.args.m.now ≡ Ok c.in-Ok.plan) c.deref.ensures.value c.in-Ok.ensures; begun = c.in_ok-begin.ensures.frame; stored = c.in_ok-begin.ensures.tables } in
+    let s = meant frame tables in
+    let by : startable s m ≡ Ok c.in-Ok.plan = subst (λ (ts : List StoredTable). startable (meant frame (map seen ts)) m ≡ Ok c.in-Ok.plan) c.deref.ensures.value c.in-Ok.ensures in
+    let is = λ (former : Option Former). same_parts c.begin.new.frame _ former former new _ c.in_ok-begin.ensures.frame refl c.in_ok-begin.ensures.tables in
+    let started = λ (former : Option Former). starts c.laws_below.ensures frame former tables m c.in-Ok.plan c.requires by in
     record {
-      goes = start_goes law c.args.frame.now tables c.args.m.now c.in-Ok.plan c.begin.new.frame new c.in_ok-copy.field-0 c.requires leaves c.in_ok-copy.ensures;
-      stored = start_stores c.args.frame.now tables c.args.m.now c.in-Ok.plan c.begin.new.frame new leaves;
-      kept = start_keeps law c.args.frame.now tables c.args.m.now c.in-Ok.plan c.begin.new.frame new c.requires leaves;
+      goes = λ former. subst (Goes (parts frame former c.args.tables.now.items) (start_read s m) (Ok (reply_of.Start c.in_ok-copy.field-0))) (sym (is former))
+          (rw c.in_ok-copy.ensures (started former).0);
+      stored = λ former. (c.in-Ok.plan, (startable_ok s m c.in-Ok.plan by).1, is former);
+      changes = refl;
+      kept = λ former k. subst AreKept (sym (is former)) ((started former).1 k);
     }

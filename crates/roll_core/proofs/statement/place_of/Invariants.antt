@@ -1,7 +1,4 @@
-use Rattle.std.proofs.Common.{◌≡◌, drop, map, nat_eq, true}
-use Rattle.std.specs.List.{list_any}
-use Rattle.roll_core.specs.Running.{numbers_in}
-use Rattle.roll_core.specs.Seen.{seen}
+use Rattle.roll_core.proofs.Words.{◌≡◌, drop, map, nat_eq, true, list_any, numbers_in, seen}
 use Rattle.roll_core.proofs.statement.place_of.Given as goal
 
 -- the table is among those that are left

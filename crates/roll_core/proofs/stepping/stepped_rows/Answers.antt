@@ -1,9 +1,5 @@
-use Rattle.std.proofs.Common.{arith, Bor, List, ℤ, option_map, ◌≡◌, ◌∙◌, Some, add-one, ap, sym}
-use Rattle.std.specs.Prelude.{slice_get}
-use Rattle.std.proofs.lemmas.Grind.{common_steps}
-use Rattle.std.specs.FinMap as finite
-use Rattle.sql_base.specs.declared.values.Value.{Value}
-use Rattle.roll_core.specs.Stepping.{stepped_values}
+use Rattle.roll_core.proofs.Words.{arith, Bor, List, ℤ, option_map, ◌≡◌, ◌∙◌, Some, add-one, ap, sym, slice_get, common_steps, Value, stepped_values}
+use Rattle.roll_core.proofs.Words.finite
 use Rattle.roll_core.proofs.Stepped.{none_past, none_stored, stepped_next, stepped_whole}
 use Rattle.roll_core.proofs.stepping.stepped_rows.Goals as goal
 use Rattle.roll_core.proofs.stepping.stepped_rows.Goals.{else-loop-at-test, then-loop-at-test+in_default}

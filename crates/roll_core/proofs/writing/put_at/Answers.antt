@@ -1,5 +1,4 @@
-use Rattle.std.proofs.Common.{refl}
-use Rattle.std.specs.Prelude.{slice_index_or}
+use Rattle.roll_core.proofs.Words.{refl, slice_index_or}
 use Rattle.roll_core.proofs.Tables.{on_err, set_changed, set_same}
 use Rattle.roll_core.proofs.writing.put_at.Goals as goal
 

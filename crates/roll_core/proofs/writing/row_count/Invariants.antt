@@ -1,4 +1,4 @@
-use Rattle.std.proofs.Common.{◌≡◌, ◌-◌, ◌^◌, min, take}
+use Rattle.roll_core.proofs.Words.{◌≡◌, ◌-◌, ◌^◌, min, take}
 use Rattle.roll_core.specs.Seen.{row_count}
 use Rattle.roll_core.proofs.writing.row_count.Given as goal
 

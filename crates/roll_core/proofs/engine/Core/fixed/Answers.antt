@@ -1,8 +1,5 @@
-use Rattle.std.proofs.Common.{◌≡◌, ◌∙◌, None, ap, refl, sym, subst}
-use Rattle.roll_core.specs.Engine.{first_stored}
-use Rattle.roll_core.specs.Seen.{parts}
-use Rattle.roll_core.specs.Store.{IsStored, meaning}
-use Rattle.roll_core.proofs.First.{first_is, first_means, first_stands}
+use Rattle.roll_core.proofs.Words.{◌≡◌, None, ap, refl, sym, subst, first_stored, parts, IsStored, meaning}
+use Rattle.roll_core.proofs.Steps.{first_is, first_stands}
 use Rattle.roll_core.proofs.engine.Core.fixed.Goals as goal
 
 pub invariant_of-result : goal.invariant_of-result
@@ -14,6 +11,4 @@ pub returns-clause-stored : goal.returns-clause-stored
 returns-clause-stored c = first_is c.frame_of.result c.in_ok-beginning.field-0 c.push.new.self.items c.new-tables.result.items _ c.in_ok-beginning.ensures c.frame_of.ensures c.new-tables.ensures.items c.in_ok-push.ensures.items refl refl c.new.ensures
 
 pub returns-clause-means : goal.returns-clause-means
-returns-clause-means c =
-    let is : parts c.frame_of.result None c.push.new.self.items ≡ first_stored = first_is c.frame_of.result c.in_ok-beginning.field-0 c.push.new.self.items c.new-tables.result.items _ c.in_ok-beginning.ensures c.frame_of.ensures c.new-tables.ensures.items c.in_ok-push.ensures.items refl refl c.new.ensures in
-    ap meaning is ∙ first_means
+returns-clause-means c = ap meaning (returns-clause-stored c)

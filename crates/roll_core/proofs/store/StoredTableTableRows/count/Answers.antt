@@ -1,6 +1,8 @@
-use Rattle.std.proofs.Common.{◌∙◌}
-use Rattle.roll_core.proofs.Rows.{length-meant}
+use Rattle.roll_core.proofs.Words.{◌∙◌, sym, length-map, kept}
+use Rattle.roll_core.proofs.Words.finite
 use Rattle.roll_core.proofs.store.StoredTableTableRows.count.Goals as goal
 
 pub returns : goal.returns
-returns c = c.len.ensures ∙ length-meant c.args.self.now.form c.args.self.now.rows.rows
+returns c =
+    let rows = c.args.self.now.rows.rows in
+    c.len.ensures ∙ finite.len-entries rows ∙ sym (length-map (finite.entries rows) (kept c.args.self.now.form))

@@ -1,6 +1,5 @@
-use Rattle.std.proofs.Common.{rules, ◌≡◌, ◌∙◌}
-use Rattle.std.specs.FinMap as finite
-use Rattle.std.specs.Option.{option_copied}
+use Rattle.roll_core.proofs.Words.{rules, ◌≡◌, ◌∙◌, option_copied}
+use Rattle.roll_core.proofs.Words.finite
 use Rattle.roll_core.proofs.Rows.{has_key-meant}
 use Rattle.roll_core.proofs.store.StoredTableTableRows.has_key.Goals as goal
 
