@@ -1,3 +1,4 @@
+pub mod Arrays
 pub mod Demands
 pub mod Elements
 pub mod Keys

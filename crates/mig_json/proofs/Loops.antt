@@ -83,8 +83,8 @@ module _ {T : Type 0} (demands : List Data → Data → List Demand) (Is : List 
 -- Elements each of which is made of a value, and those values.
 pub made_of : {T V : Type 0} (Is : Data → V → Type 0) (made : V → T) (before : List Data) (ds : Items) (xs : List T) → AreItems (λ before d x. (v : V) × Is d v × (x ≡ made v)) before ds xs →
     (vs : List V) × AreItems (λ before. Is) before ds vs × (xs ≡ map made vs)
-made_of Is made before no_items xs h = ([], (refl, h))
+made_of Is made before no_items xs h = ([], refl, h)
 made_of {T} {V} Is made before (item d ds) xs h =
     let rest = made_of Is made (before ++ d ∷ []) ds h.1 h.3 in
     let v : V = h.2.0 in
-    (v ∷ rest.0, ((v, rest.0, h.2.1, rest.1, refl), h.4 ∙ ap (λ (x : T). x ∷ h.1) h.2.2 ∙ ap (λ (ys : List T). made v ∷ ys) rest.2))
+    (v ∷ rest.0, (v, rest.0, h.2.1, rest.1, refl), h.4 ∙ ap (λ (x : T). x ∷ h.1) h.2.2 ∙ ap (λ (ys : List T). made v ∷ ys) rest.2)

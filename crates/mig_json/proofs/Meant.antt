@@ -4,7 +4,7 @@ use Rattle.std.specs.Prelude.{bytes_eq}
 use Rattle.std.proofs.lemmas.Slice.Eq.{bytes_eq-Decides}
 use Rattle.serde_json.specs.Data.{Data, Items, no_items, item, Members, no_members, member}
 use Rattle.serde_json.specs.Data as json
-use Rattle.serde_json.specs.Find.{get, as_str, as_array, as_object}
+use Rattle.serde_json.specs.Find.{get, as_str, as_array}
 use Rattle.sql_base.specs.declared.exprs.Expr.{Expr}
 use Rattle.sql_base.specs.declared.exprs.Expr.TheVariants.{Lit}
 use Rattle.sql_base.specs.declared.values.Ty.{Ty}

@@ -26,7 +26,7 @@ members which.Column = keys column
 members (which.Of operation) = keys (form operation).fields
 
 abbrev pub is_of : Object → Data → Bool
-is_of object d = are_known (members object) (as_object d)
+is_of it d = are_known (members it) (as_object d)
 
 -- ---- operations
 

@@ -3,23 +3,23 @@
 ghost use Rattle.std.specs.Prelude.{◌≡◌, [], map, length, true, false, not, codes, Option, List, option_map, unwrap_or, Some, MatchOption};
 ghost use Rattle.std.specs.List.{list_any};
 ghost use Rattle.serde_json.specs.Data.{array};
+ghost use Rattle.serde_json.specs.Find.{as_str};
 ghost use Rattle.serde_json.specs.View.{view, items_view, members_view};
 ghost use Rattle.sql_base.specs.declared.exprs.Expr.{Expr};
 ghost use Rattle.mig_json.specs.Demand.{Reads, inside};
 ghost use Rattle.mig_json.specs.Kind.{needed, within, demands, field_demands, member_path, element_path, Has, May, Is, Are, ValuesOf, needs, is_list, is_filled};
 ghost use Rattle.mig_json.specs.Kind as kind;
+ghost use Rattle.mig_json.specs.Reading.{has_list};
 ghost use Rattle.mig_json.specs.Table as table;
 
 use crate::faults as faults;
 use crate::faults::{JsonFault, bad, inside, member_fault};
 use crate::members::{Object, is_of};
 use crate::names::is_part_name;
-use crate::values::{
-    expression_in, may_flag, may_literal, read_expression, read_name, read_type,
-};
+use crate::values::{expression_in, may_flag, may_literal, read_expression, read_name, read_type};
 use mig_lens::{ColumnDef, Member, Ways};
 use serde_json::{Map, Value};
-use sql_base::{Check, Expr, List, Name};
+use sql_base::{Check, Expr, List, Name, Ty};
 use std::alloc::Global;
 
 // ---- checks
@@ -91,6 +91,28 @@ pub(crate) fn may_named(
 
 // ---- columns
 
+fn column_with(
+    name: Name,
+    ty: Ty,
+    nullable: Option<bool>,
+    pk: Option<bool>,
+    unique: Option<bool>,
+    default: Option<sql_base::Value>,
+    check: Option<Check>,
+) -> ColumnDef
+    ensures { result ≡ table.column_with name ty nullable pk unique default check }
+{
+    ColumnDef {
+        name,
+        ty,
+        nullable: nullable.unwrap_or(false),
+        pk: pk.unwrap_or(false),
+        unique: unique.unwrap_or(false),
+        default: default.unwrap_or(sql_base::Value::Null),
+        check,
+    }
+}
+
 fn column_members(
     alloc: Global,
     at: u64,
@@ -114,15 +136,7 @@ fn column_members(
         column.get("default"),
     )?;
     let check = may_check(alloc, at, path, "check", column.get("check"))?;
-    Ok(ColumnDef {
-        name,
-        ty,
-        nullable: nullable.unwrap_or(false),
-        pk: pk.unwrap_or(false),
-        unique: unique.unwrap_or(false),
-        default: default.unwrap_or(sql_base::Value::Null),
-        check,
-    })
+    Ok(column_with(name, ty, nullable, pk, unique, default, check))
 }
 
 fn read_column(alloc: Global, at: u64, path: &str, column: &Value) -> Result<ColumnDef, JsonFault>
@@ -180,12 +194,20 @@ fn read_columns(
     Ok(columns)
 }
 
+/// The elements of an array.
+pub(crate) fn elements(value: Option<&Value>) -> Option<&[Value]>
+    ensures { let d = option_map (λ v. view v.now) value.entry in
+        MatchOption result (has_list d ≡ false) (λ items. d ≡ Some (array (items_view items.now))) }
+{
+    Some(value.and_then(Value::as_array)?.as_slice())
+}
+
 /// The elements of an array that isn't empty.
 fn filled(value: Option<&Value>) -> Option<&[Value]>
     ensures { let d = option_map (λ v. view v.now) value.entry in
         MatchOption result (needs is_list d ≡ false) (λ items. (d ≡ Some (array (items_view items.now))) × (is_filled (items_view items.now) ≡ true)) }
 {
-    let items = value.and_then(Value::as_array)?.as_slice();
+    let items = elements(value)?;
     if items.is_empty() { None } else { Some(items) }
 }
 
@@ -216,11 +238,19 @@ fn is_text(value: &Value, text: &str) -> bool
     }
 }
 
-/// Whether none of the values before is this text.
-fn is_new(before: &[Value], text: &str) -> bool
-    ensures { result ≡ not (list_any (λ v. kind.is_word text.now (view v)) before.now) }
+/// Whether one of the values is this text.
+fn stands_in(before: &[Value], text: &str) -> bool
+    ensures { result ≡ list_any (λ v. kind.is_word text.now (view v)) before.now }
 {
-    !before.iter().any(|other| is_text(other, text))
+    before.iter().any(|other| is_text(other, text))
+}
+
+/// Whether none of the values before is the text that this one is.
+fn is_new(before: &[Value], item: &Value, text: &str) -> bool
+    requires { as_str (view item.now) ≡ Some text.now }
+    ensures { result ≡ kind.is_new (map view before.now) (view item.now) }
+{
+    !stands_in(before, text)
 }
 
 /// The name that an element is, where none before is it.
@@ -239,18 +269,13 @@ fn new_name(
     if !is_part_name(text) {
         return Err(faults::element_fault(alloc, at, path, before.len()));
     }
-    if !is_new(before, text) {
+    if !is_new(before, item, text) {
         return Err(faults::element_fault(alloc, at, path, before.len()));
     }
     Ok(Name::from_slice(alloc, text.as_bytes())?)
 }
 
-fn read_names(
-    alloc: Global,
-    at: u64,
-    path: &str,
-    items: &[Value],
-) -> Result<List<Name>, JsonFault>
+fn read_names(alloc: Global, at: u64, path: &str, items: &[Value]) -> Result<List<Name>, JsonFault>
     ensures { Reads (kind.item_demands (kind.name_demands at path.now) [] (items_view items.now))
         (λ xs. kind.AreItems kind.IsNewName [] (items_view items.now) xs) result }
 {

@@ -108,7 +108,7 @@ fn alter_column(alloc: Global, at: u64, operation: &Value) -> Result<Op, JsonFau
 }
 
 fn pairs_or_none(alloc: Global, pairs: Option<List<(Name, Expr)>>) -> List<(Name, Expr)>
-    ensures { result ≡ unwrap_or pairs.entry [] }
+    ensures { result ≡ unwrap_or pairs [] }
 {
     match pairs {
         Some(pairs) => pairs,
@@ -143,7 +143,14 @@ fn create_check(alloc: Global, at: u64, operation: &Value) -> Result<Op, JsonFau
     let name = read_name(alloc, at, "", "name", operation.get("name"))?;
     read_word(alloc, at, "", "type", "check", operation.get("type"))?;
     let columns = must_names(alloc, at, operation.get("columns"))?;
-    let check = read_expression(alloc, at, Member::Check, "", "check", operation.get("check"))?;
+    let check = read_expression(
+        alloc,
+        at,
+        Member::Check,
+        "",
+        "check",
+        operation.get("check"),
+    )?;
     let up = may_each(alloc, at, Member::Up, ".up", operation.get("up"))?;
     let down = may_each(alloc, at, Member::Down, ".down", operation.get("down"))?;
     Ok(Op::CreateConstraint {

@@ -16,6 +16,7 @@ ghost use Rattle.mig_json.specs.Table as table;
 use crate::faults::{JsonFault, inside, top};
 use crate::members::{Object, Operation, is_of};
 use crate::names::is_name;
+use crate::objects::elements;
 use crate::operations::read_members;
 use mig_lens::{Migration, Op};
 use serde_json::{Map, Value};
@@ -79,12 +80,7 @@ fn operation_of(key: &str, value: &Value) -> Option<Operation>
 }
 
 /// What an object under an operation's name is.
-fn read_object(
-    alloc: Global,
-    at: u64,
-    operation: Operation,
-    value: &Value,
-) -> Result<Op, JsonFault>
+fn read_object(alloc: Global, at: u64, operation: Operation, value: &Value) -> Result<Op, JsonFault>
     ensures { Reads (demands (kind.object (table.form operation).fields) at [] (view value.now))
         (Makes (record { operation = operation; value = view value.now })) result }
 {
@@ -150,10 +146,10 @@ fn read_value(alloc: Global, value: &Value) -> Result<Migration, JsonFault>
         return Err(top(alloc, "$"));
     }
     let name = migration_name(alloc, value.get("name"))?;
-    let Some(items) = value.get("operations").and_then(Value::as_array) else {
+    let Some(items) = elements(value.get("operations")) else {
         return Err(top(alloc, "operations"));
     };
-    let operations = read_operations(alloc, items.as_slice())?;
+    let operations = read_operations(alloc, items)?;
     Ok(Migration { name, operations })
 }
 

@@ -93,7 +93,11 @@ fn column(alloc: Global, column: &ColumnDef) -> Result<String, Fail> {
     all.push_str(if column.pk { " pk" } else { "" })?;
     all.push_str(if column.unique { " unique" } else { "" })?;
     if column.default != Value::Null {
-        put(&mut all, " default=", Some(literal(alloc, &column.default)?))?;
+        put(
+            &mut all,
+            " default=",
+            Some(literal(alloc, &column.default)?),
+        )?;
     }
     if let Some(one) = &column.check {
         put(&mut all, " check ", Some(check(alloc, one)?))?;
@@ -128,7 +132,8 @@ fn altered(alloc: Global, op: &Op) -> Result<String, Fail> {
         check: one,
         up,
         down,
-    } = op else {
+    } = op
+    else {
         return Ok(String::new(alloc));
     };
     let mut all = format!(in alloc; "alter_column {} {}", word(table), word(column))?;
@@ -160,7 +165,8 @@ fn constrained(alloc: Global, op: &Op) -> Result<String, Fail> {
         check,
         up,
         down,
-    } = op else {
+    } = op
+    else {
         return Ok(String::new(alloc));
     };
     let mut all = format!(in alloc; "create_constraint {} {} (", word(table), word(name))?;
@@ -178,8 +184,16 @@ fn operation(alloc: Global, op: &Op) -> Result<String, Fail> {
     let mut all = match op {
         Op::CreateTable { name, columns } => created(alloc, name, columns)?,
         Op::DropTable { name } => format!(in alloc; "drop_table {}", word(name))?,
-        Op::RenameTable { from, to } => format!(in alloc; "rename_table {} {}", word(from), word(to))?,
-        Op::AddColumn { table, column: one, .. } => {
+        Op::RenameTable { from, to } => format!(in alloc;
+            "rename_table {} {}",
+            word(from),
+            word(to)
+        )?,
+        Op::AddColumn {
+            table,
+            column: one,
+            ..
+        } => {
             let one = column(alloc, one)?;
             format!(in alloc; "add_column {}{one}", word(table))?
         }
