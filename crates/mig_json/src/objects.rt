@@ -25,8 +25,7 @@ use std::alloc::Global;
 // ---- checks
 
 fn check_members(alloc: Global, at: u64, path: &str, check: &Value) -> Result<Check, JsonFault>
-    ensures { Reads (field_demands table.check at path.now (view check.now))
-        (λ it. (xs : ValuesOf table.check) × Are table.check (view check.now) xs × (it ≡ table.check_of xs)) result }
+    ensures { kind.MembersMake table.check table.check_of at path.now (view check.now) result }
 {
     let name = read_name(alloc, at, path, "name", check.get("name"))?;
     let expr = read_expression(
@@ -41,7 +40,7 @@ fn check_members(alloc: Global, at: u64, path: &str, check: &Value) -> Result<Ch
 }
 
 fn read_check(alloc: Global, at: u64, path: &str, check: &Value) -> Result<Check, JsonFault>
-    ensures { Reads (demands (kind.object table.check) at path.now (view check.now)) (table.IsCheck (view check.now)) result }
+    ensures { kind.ObjectMakes table.check table.check_of at path.now (view check.now) result }
 {
     if !is_of(Object::Check, check) {
         return Err(inside(alloc, at, path));
@@ -58,8 +57,7 @@ pub(crate) fn may_check(
     value: Option<&Value>,
 ) -> Result<Option<Check>, JsonFault>
     ensures { let d = option_map (λ v. view v.now) value.entry in
-        Reads (within (demands (kind.object table.check) at (member_path path.now key.now)) d)
-        (λ it. (x : Option (ValuesOf table.check)) × May (Is (kind.object table.check)) d x × (it ≡ option_map table.check_of x)) result }
+        kind.MayMake (kind.object table.check) table.check_of at (member_path path.now key.now) d result }
 {
     let Some(check) = value else {
         return Ok(None);
@@ -76,8 +74,7 @@ pub(crate) fn may_named(
     value: Option<&Value>,
 ) -> Result<Option<Name>, JsonFault>
     ensures { let d = option_map (λ v. view v.now) value.entry in
-        Reads (within (demands (kind.object table.named) at (codes ".unique")) d)
-        (λ it. (x : Option (ValuesOf table.named)) × May (Is (kind.object table.named)) d x × (it ≡ option_map (λ xs. xs.0) x)) result }
+        kind.MayMake (kind.object table.named) (λ xs. xs.0) at (codes ".unique") d result }
 {
     let Some(named) = value else {
         return Ok(None);
@@ -119,8 +116,7 @@ fn column_members(
     path: &str,
     column: &Value,
 ) -> Result<ColumnDef, JsonFault>
-    ensures { Reads (field_demands table.column at path.now (view column.now))
-        (λ it. (xs : ValuesOf table.column) × Are table.column (view column.now) xs × (it ≡ table.column_of xs)) result }
+    ensures { kind.MembersMake table.column table.column_of at path.now (view column.now) result }
 {
     let name = read_name(alloc, at, path, "name", column.get("name"))?;
     let ty = read_type(alloc, at, path, "type", column.get("type"))?;
@@ -140,7 +136,7 @@ fn column_members(
 }
 
 fn read_column(alloc: Global, at: u64, path: &str, column: &Value) -> Result<ColumnDef, JsonFault>
-    ensures { Reads (demands (kind.object table.column) at path.now (view column.now)) (table.IsColumn (view column.now)) result }
+    ensures { kind.ObjectMakes table.column table.column_of at path.now (view column.now) result }
 {
     if !is_of(Object::Column, column) {
         return Err(inside(alloc, at, path));
@@ -155,8 +151,7 @@ pub(crate) fn must_column(
     value: Option<&Value>,
 ) -> Result<ColumnDef, JsonFault>
     ensures { let d = option_map (λ v. view v.now) value.entry in
-        Reads (needed (demands (kind.object table.column) at (codes ".column")) (inside at (codes ".column")) d)
-        (λ it. (xs : ValuesOf table.column) × Has (Is (kind.object table.column)) d xs × (it ≡ table.column_of xs)) result }
+        kind.MustMake (kind.object table.column) table.column_of at (codes ".column") d result }
 {
     let Some(column) = value else {
         return Err(inside(alloc, at, ".column"));
@@ -172,7 +167,7 @@ fn column_at(
     j: usize,
     column: &Value,
 ) -> Result<ColumnDef, JsonFault>
-    ensures { Reads (demands (kind.object table.column) at (element_path path.now j) (view column.now)) (table.IsColumn (view column.now)) result }
+    ensures { kind.ObjectMakes table.column table.column_of at (element_path path.now j) (view column.now) result }
 {
     let inner = faults::element_path(alloc, path, j)?;
     read_column(alloc, at, inner.as_str(), column)
@@ -184,7 +179,8 @@ fn read_columns(
     path: &str,
     items: &[Value],
 ) -> Result<List<ColumnDef>, JsonFault>
-    ensures { Reads (kind.item_demands (λ before e. demands (kind.object table.column) at (element_path path.now (length before)) e) [] (items_view items.now))
+    ensures { let each = kind.element_demands (kind.object table.column) at path.now in
+        Reads (kind.item_demands each [] (items_view items.now))
         (λ xs. kind.AreItems (λ before. table.IsColumn) [] (items_view items.now) xs) result }
 {
     let mut columns = List::new(alloc);
@@ -205,7 +201,8 @@ pub(crate) fn elements(value: Option<&Value>) -> Option<&[Value]>
 /// The elements of an array that isn't empty.
 fn filled(value: Option<&Value>) -> Option<&[Value]>
     ensures { let d = option_map (λ v. view v.now) value.entry in
-        MatchOption result (needs is_list d ≡ false) (λ items. (d ≡ Some (array (items_view items.now))) × (is_filled (items_view items.now) ≡ true)) }
+        MatchOption result (needs is_list d ≡ false)
+        (λ items. (d ≡ Some (array (items_view items.now))) × (is_filled (items_view items.now) ≡ true)) }
 {
     let items = elements(value)?;
     if items.is_empty() { None } else { Some(items) }
@@ -218,8 +215,7 @@ pub(crate) fn must_columns(
     value: Option<&Value>,
 ) -> Result<List<ColumnDef>, JsonFault>
     ensures { let d = option_map (λ v. view v.now) value.entry in
-        Reads (needed (demands (kind.many (kind.object table.column)) at (codes ".columns")) (inside at (codes ".columns")) d)
-        (λ it. (xs : List (ValuesOf table.column)) × Has (Is (kind.many (kind.object table.column))) d xs × (it ≡ map table.column_of xs)) result }
+        kind.MustMake (kind.many (kind.object table.column)) (map table.column_of) at (codes ".columns") d result }
 {
     let Some(items) = filled(value) else {
         return Err(inside(alloc, at, ".columns"));
@@ -261,7 +257,8 @@ fn new_name(
     before: &[Value],
     item: &Value,
 ) -> Result<Name, JsonFault>
-    ensures { Reads (kind.name_demands at path.now (map view before.now) (view item.now)) (kind.IsNewName (map view before.now) (view item.now)) result }
+    ensures { Reads (kind.name_demands at path.now (map view before.now) (view item.now))
+        (kind.IsNewName (map view before.now) (view item.now)) result }
 {
     let Some(text) = item.as_str() else {
         return Err(faults::element_fault(alloc, at, path, before.len()));
@@ -293,7 +290,7 @@ pub(crate) fn must_names(
     value: Option<&Value>,
 ) -> Result<List<Name>, JsonFault>
     ensures { let d = option_map (λ v. view v.now) value.entry in
-        Reads (needed (demands kind.names at (codes ".columns")) (inside at (codes ".columns")) d) (λ xs. Has (Is kind.names) d xs) result }
+        kind.MustRead kind.names at (codes ".columns") d result }
 {
     let Some(items) = filled(value) else {
         return Err(inside(alloc, at, ".columns"));
@@ -311,7 +308,8 @@ fn read_pair(
     key: &str,
     value: &Value,
 ) -> Result<(Name, Expr), JsonFault>
-    ensures { Reads (kind.pair_demands member at path.now key.now (view value.now)) (λ x. kind.IsPair key.now (view value.now) x) result }
+    ensures { Reads (kind.pair_demands member at path.now key.now (view value.now))
+        (λ x. kind.IsPair key.now (view value.now) x) result }
 {
     if !is_part_name(key) {
         return Err(inside(alloc, at, path));
@@ -333,7 +331,8 @@ fn read_pairs(
     path: &str,
     map: &Map<String, Value>,
 ) -> Result<List<(Name, Expr)>, JsonFault>
-    ensures { Reads (kind.pairs_demands member at path.now (members_view map.now.entries)) (λ xs. kind.ArePairs (members_view map.now.entries) xs) result }
+    ensures { Reads (kind.pairs_demands member at path.now (members_view map.now.entries))
+        (λ xs. kind.ArePairs (members_view map.now.entries) xs) result }
 {
     let mut pairs = List::new(alloc);
     for (key, value) in map.iter() {
@@ -349,7 +348,8 @@ fn read_each(
     path: &str,
     value: &Value,
 ) -> Result<List<(Name, Expr)>, JsonFault>
-    ensures { Reads (kind.each_demands member at path.now (view value.now)) (λ xs. kind.AreEach (view value.now) xs) result }
+    ensures { Reads (kind.each_demands member at path.now (view value.now))
+        (λ xs. kind.AreEach (view value.now) xs) result }
 {
     match value.as_object() {
         Some(map) => read_pairs(alloc, at, member, path, map),
@@ -366,7 +366,7 @@ pub(crate) fn may_each(
     value: Option<&Value>,
 ) -> Result<Option<List<(Name, Expr)>>, JsonFault>
     ensures { let d = option_map (λ v. view v.now) value.entry in
-        Reads (within (demands (kind.each member) at path.now) d) (λ x. May (Is (kind.each member)) d x) result }
+        kind.MayRead (kind.each member) at path.now d result }
 {
     let Some(value) = value else {
         return Ok(None);
@@ -382,7 +382,8 @@ fn read_ways(
     path: &str,
     value: &Value,
 ) -> Result<Ways, JsonFault>
-    ensures { Reads (demands (kind.ways member) at path.now (view value.now)) (λ x. kind.IsWays (view value.now) x) result }
+    ensures { Reads (demands (kind.ways member) at path.now (view value.now))
+        (λ x. kind.IsWays (view value.now) x) result }
 {
     let Some(text) = value.as_str() else {
         let pairs = read_each(alloc, at, member, path, value)?;
@@ -403,7 +404,7 @@ pub(crate) fn may_ways(
     value: Option<&Value>,
 ) -> Result<Option<Ways>, JsonFault>
     ensures { let d = option_map (λ v. view v.now) value.entry in
-        Reads (within (demands (kind.ways member) at path.now) d) (λ x. May (Is (kind.ways member)) d x) result }
+        kind.MayRead (kind.ways member) at path.now d result }
 {
     let Some(value) = value else {
         return Ok(None);

@@ -3,8 +3,7 @@
 ghost use Rattle.std.specs.Prelude.{◌≡◌, [], List, Option, unwrap_or};
 ghost use Rattle.serde_json.specs.View.{view};
 ghost use Rattle.sql_base.specs.declared.exprs.Expr.{Expr};
-ghost use Rattle.mig_json.specs.Demand.{Reads};
-ghost use Rattle.mig_json.specs.Kind.{field_demands};
+ghost use Rattle.mig_json.specs.Kind.{MembersMake};
 ghost use Rattle.mig_json.specs.Table as table;
 
 use crate::faults::JsonFault;
@@ -22,7 +21,7 @@ use sql_base::{Expr, List, Name};
 use std::alloc::Global;
 
 fn create_table(alloc: Global, at: u64, operation: &Value) -> Result<Op, JsonFault>
-    ensures { Reads (field_demands table.create_table.fields at [] (view operation.now)) (table.IsMade table.create_table (view operation.now)) result }
+    ensures { MembersMake table.create_table.fields table.create_table.made at [] (view operation.now) result }
 {
     let name = read_name(alloc, at, "", "name", operation.get("name"))?;
     let columns = must_columns(alloc, at, operation.get("columns"))?;
@@ -30,14 +29,14 @@ fn create_table(alloc: Global, at: u64, operation: &Value) -> Result<Op, JsonFau
 }
 
 fn drop_table(alloc: Global, at: u64, operation: &Value) -> Result<Op, JsonFault>
-    ensures { Reads (field_demands table.drop_table.fields at [] (view operation.now)) (table.IsMade table.drop_table (view operation.now)) result }
+    ensures { MembersMake table.drop_table.fields table.drop_table.made at [] (view operation.now) result }
 {
     let name = read_name(alloc, at, "", "name", operation.get("name"))?;
     Ok(Op::DropTable { name })
 }
 
 fn rename_table(alloc: Global, at: u64, operation: &Value) -> Result<Op, JsonFault>
-    ensures { Reads (field_demands table.rename_table.fields at [] (view operation.now)) (table.IsMade table.rename_table (view operation.now)) result }
+    ensures { MembersMake table.rename_table.fields table.rename_table.made at [] (view operation.now) result }
 {
     let from = read_name(alloc, at, "", "from", operation.get("from"))?;
     let to = read_name(alloc, at, "", "to", operation.get("to"))?;
@@ -45,7 +44,7 @@ fn rename_table(alloc: Global, at: u64, operation: &Value) -> Result<Op, JsonFau
 }
 
 fn add_column(alloc: Global, at: u64, operation: &Value) -> Result<Op, JsonFault>
-    ensures { Reads (field_demands table.add_column.fields at [] (view operation.now)) (table.IsMade table.add_column (view operation.now)) result }
+    ensures { MembersMake table.add_column.fields table.add_column.made at [] (view operation.now) result }
 {
     let table = read_name(alloc, at, "", "table", operation.get("table"))?;
     let column = must_column(alloc, at, operation.get("column"))?;
@@ -54,7 +53,7 @@ fn add_column(alloc: Global, at: u64, operation: &Value) -> Result<Op, JsonFault
 }
 
 fn drop_column(alloc: Global, at: u64, operation: &Value) -> Result<Op, JsonFault>
-    ensures { Reads (field_demands table.drop_column.fields at [] (view operation.now)) (table.IsMade table.drop_column (view operation.now)) result }
+    ensures { MembersMake table.drop_column.fields table.drop_column.made at [] (view operation.now) result }
 {
     let table = read_name(alloc, at, "", "table", operation.get("table"))?;
     let column = read_name(alloc, at, "", "column", operation.get("column"))?;
@@ -67,7 +66,7 @@ fn drop_column(alloc: Global, at: u64, operation: &Value) -> Result<Op, JsonFaul
 }
 
 fn rename_column(alloc: Global, at: u64, operation: &Value) -> Result<Op, JsonFault>
-    ensures { Reads (field_demands table.rename_column.fields at [] (view operation.now)) (table.IsMade table.rename_column (view operation.now)) result }
+    ensures { MembersMake table.rename_column.fields table.rename_column.made at [] (view operation.now) result }
 {
     let table = read_name(alloc, at, "", "table", operation.get("table"))?;
     let from = read_name(alloc, at, "", "from", operation.get("from"))?;
@@ -76,7 +75,7 @@ fn rename_column(alloc: Global, at: u64, operation: &Value) -> Result<Op, JsonFa
 }
 
 fn alter_column(alloc: Global, at: u64, operation: &Value) -> Result<Op, JsonFault>
-    ensures { Reads (field_demands table.alter_column.fields at [] (view operation.now)) (table.IsMade table.alter_column (view operation.now)) result }
+    ensures { MembersMake table.alter_column.fields table.alter_column.made at [] (view operation.now) result }
 {
     let table = read_name(alloc, at, "", "table", operation.get("table"))?;
     let column = read_name(alloc, at, "", "column", operation.get("column"))?;
@@ -117,7 +116,7 @@ fn pairs_or_none(alloc: Global, pairs: Option<List<(Name, Expr)>>) -> List<(Name
 }
 
 fn create_unique(alloc: Global, at: u64, operation: &Value) -> Result<Op, JsonFault>
-    ensures { Reads (field_demands table.create_unique.fields at [] (view operation.now)) (table.IsMade table.create_unique (view operation.now)) result }
+    ensures { MembersMake table.create_unique.fields table.create_unique.made at [] (view operation.now) result }
 {
     let table = read_name(alloc, at, "", "table", operation.get("table"))?;
     let name = read_name(alloc, at, "", "name", operation.get("name"))?;
@@ -137,7 +136,7 @@ fn create_unique(alloc: Global, at: u64, operation: &Value) -> Result<Op, JsonFa
 }
 
 fn create_check(alloc: Global, at: u64, operation: &Value) -> Result<Op, JsonFault>
-    ensures { Reads (field_demands table.create_check.fields at [] (view operation.now)) (table.IsMade table.create_check (view operation.now)) result }
+    ensures { MembersMake table.create_check.fields table.create_check.made at [] (view operation.now) result }
 {
     let table = read_name(alloc, at, "", "table", operation.get("table"))?;
     let name = read_name(alloc, at, "", "name", operation.get("name"))?;
@@ -164,7 +163,7 @@ fn create_check(alloc: Global, at: u64, operation: &Value) -> Result<Op, JsonFau
 }
 
 fn drop_constraint(alloc: Global, at: u64, operation: &Value) -> Result<Op, JsonFault>
-    ensures { Reads (field_demands table.drop_constraint.fields at [] (view operation.now)) (table.IsMade table.drop_constraint (view operation.now)) result }
+    ensures { MembersMake table.drop_constraint.fields table.drop_constraint.made at [] (view operation.now) result }
 {
     let table = read_name(alloc, at, "", "table", operation.get("table"))?;
     let name = read_name(alloc, at, "", "name", operation.get("name"))?;
@@ -186,7 +185,7 @@ pub(crate) fn read_members(
     value: &Value,
 ) -> Result<Op, JsonFault>
     ensures { let form = table.form operation in
-        Reads (field_demands form.fields at [] (view value.now)) (table.IsMade form (view value.now)) result }
+        MembersMake form.fields form.made at [] (view value.now) result }
 {
     match operation {
         Operation::CreateTable => create_table(alloc, at, value),

@@ -35,7 +35,9 @@ fn type_of(text: &str) -> Option<Ty>
 
 /// The expression that a text reads as, or `None` where it reads as none. An error is want of memory.
 pub(crate) fn expression_in(alloc: Global, text: &[u8]) -> Result<Option<Expr>, NoMemory>
-    ensures { IfOk result (λ o. MatchOption o ((a : Expr) → IsExpression text.now a → ⊥) (λ a. IsExpression text.now a)) }
+    ensures { IfOk result (λ o. MatchOption o
+        ((a : Expr) → IsExpression text.now a → ⊥)
+        (λ a. IsExpression text.now a)) }
 {
     if text.len() > MAX_EXPRESSION {
         return Ok(None);
@@ -59,7 +61,9 @@ fn literal_of(tree: Expr) -> Option<sql_base::Value>
 
 /// The value that a text reads as, or `None` where it reads as no literal. An error is want of memory.
 fn literal_in(alloc: Global, text: &[u8]) -> Result<Option<sql_base::Value>, NoMemory>
-    ensures { IfOk result (λ o. MatchOption o ((v : sql.Value) → IsExpression text.now (Lit v) → ⊥) (λ v. IsExpression text.now (Lit v))) }
+    ensures { IfOk result (λ o. MatchOption o
+        ((v : sql.Value) → IsExpression text.now (Lit v) → ⊥)
+        (λ v. IsExpression text.now (Lit v))) }
 {
     one_tree();
     match expression_in(alloc, text)? {
@@ -77,8 +81,7 @@ pub(crate) fn read_name(
     value: Option<&Value>,
 ) -> Result<Name, JsonFault>
     ensures { let d = option_map (λ v. view v.now) value.entry in
-        let p = member_path path.now key.now in
-        Reads (needed (demands kind.name at p) (inside at p) d) (λ x. Has (Is kind.name) d x) result }
+        kind.MustRead kind.name at (member_path path.now key.now) d result }
 {
     let Some(text) = value.and_then(Value::as_str) else {
         return Err(member_fault(alloc, at, path, key));
@@ -98,8 +101,7 @@ pub(crate) fn read_type(
     value: Option<&Value>,
 ) -> Result<Ty, JsonFault>
     ensures { let d = option_map (λ v. view v.now) value.entry in
-        let p = member_path path.now key.now in
-        Reads (needed (demands kind.«type» at p) (inside at p) d) (λ x. Has (Is kind.«type») d x) result }
+        kind.MustRead kind.«type» at (member_path path.now key.now) d result }
 {
     let Some(text) = value.and_then(Value::as_str) else {
         return Err(member_fault(alloc, at, path, key));
@@ -122,7 +124,7 @@ pub(crate) fn may_type(
     value: Option<&Value>,
 ) -> Result<Option<Ty>, JsonFault>
     ensures { let d = option_map (λ v. view v.now) value.entry in
-        Reads (within (demands kind.«type» at (member_path path.now key.now)) d) (λ x. May (Is kind.«type») d x) result }
+        kind.MayRead kind.«type» at (member_path path.now key.now) d result }
 {
     let Some(value) = value else {
         return Ok(None);
@@ -148,7 +150,7 @@ pub(crate) fn may_flag(
     value: Option<&Value>,
 ) -> Result<Option<bool>, JsonFault>
     ensures { let d = option_map (λ v. view v.now) value.entry in
-        Reads (within (demands kind.flag at (member_path path.now key.now)) d) (λ x. May (Is kind.flag) d x) result }
+        kind.MayRead kind.flag at (member_path path.now key.now) d result }
 {
     let Some(value) = value else {
         return Ok(None);
@@ -209,8 +211,7 @@ pub(crate) fn read_expression(
     value: Option<&Value>,
 ) -> Result<Expr, JsonFault>
     ensures { let d = option_map (λ v. view v.now) value.entry in
-        let p = member_path path.now key.now in
-        Reads (needed (demands (kind.expression member) at p) (inside at p) d) (λ x. Has (Is (kind.expression member)) d x) result }
+        kind.MustRead (kind.expression member) at (member_path path.now key.now) d result }
 {
     let Some(text) = value.and_then(Value::as_str) else {
         return Err(member_fault(alloc, at, path, key));
@@ -231,7 +232,7 @@ pub(crate) fn may_expression(
     value: Option<&Value>,
 ) -> Result<Option<Expr>, JsonFault>
     ensures { let d = option_map (λ v. view v.now) value.entry in
-        Reads (within (demands (kind.expression member) at (member_path path.now key.now)) d) (λ x. May (Is (kind.expression member)) d x) result }
+        kind.MayRead (kind.expression member) at (member_path path.now key.now) d result }
 {
     let Some(value) = value else {
         return Ok(None);
@@ -255,7 +256,7 @@ pub(crate) fn may_literal(
     value: Option<&Value>,
 ) -> Result<Option<sql_base::Value>, JsonFault>
     ensures { let d = option_map (λ v. view v.now) value.entry in
-        Reads (within (demands (kind.literal member) at (member_path path.now key.now)) d) (λ x. May (Is (kind.literal member)) d x) result }
+        kind.MayRead (kind.literal member) at (member_path path.now key.now) d result }
 {
     let Some(value) = value else {
         return Ok(None);

@@ -180,49 +180,70 @@ fn constrained(alloc: Global, op: &Op) -> Result<String, Fail> {
     Ok(all)
 }
 
+fn moved(alloc: Global, op: &Op) -> Result<String, Fail> {
+    match op {
+        Op::DropTable { name } => Ok(format!(in alloc; "drop_table {}", word(name))?),
+        Op::RenameTable { from, to } => {
+            let (from, to) = (word(from), word(to));
+            Ok(format!(in alloc; "rename_table {from} {to}")?)
+        }
+        Op::RenameColumn { table, from, to } => {
+            let (table, from, to) = (word(table), word(from), word(to));
+            Ok(format!(in alloc; "rename_column {table} {from} {to}")?)
+        }
+        _ => Ok(String::new(alloc)),
+    }
+}
+
+fn freed(
+    alloc: Global,
+    table: &Name,
+    name: &Name,
+    up: &Option<Ways>,
+    down: &Option<Ways>,
+) -> Result<String, Fail> {
+    let mut all = format!(in alloc; "drop_constraint {} {}", word(table), word(name))?;
+    if let Some(up) = up {
+        put(&mut all, " up=", Some(ways(alloc, up)?))?;
+    }
+    if let Some(down) = down {
+        put(&mut all, " down=", Some(ways(alloc, down)?))?;
+    }
+    Ok(all)
+}
+
 fn operation(alloc: Global, op: &Op) -> Result<String, Fail> {
-    let mut all = match op {
-        Op::CreateTable { name, columns } => created(alloc, name, columns)?,
-        Op::DropTable { name } => format!(in alloc; "drop_table {}", word(name))?,
-        Op::RenameTable { from, to } => format!(in alloc;
-            "rename_table {} {}",
-            word(from),
-            word(to)
-        )?,
+    match op {
+        Op::CreateTable { name, columns } => created(alloc, name, columns),
         Op::AddColumn {
             table,
             column: one,
-            ..
+            up,
         } => {
             let one = column(alloc, one)?;
-            format!(in alloc; "add_column {}{one}", word(table))?
+            let mut all = format!(in alloc; "add_column {}{one}", word(table))?;
+            maybe(alloc, &mut all, " up=", up)?;
+            Ok(all)
         }
-        Op::DropColumn { table, column, .. } => {
-            format!(in alloc; "drop_column {} {}", word(table), word(column))?
+        Op::DropColumn {
+            table,
+            column,
+            down,
+        } => {
+            let mut all = format!(in alloc; "drop_column {} {}", word(table), word(column))?;
+            maybe(alloc, &mut all, " down=", down)?;
+            Ok(all)
         }
-        Op::RenameColumn { table, from, to } => {
-            format!(in alloc; "rename_column {} {} {}", word(table), word(from), word(to))?
-        }
-        Op::AlterColumn { .. } => altered(alloc, op)?,
-        Op::CreateConstraint { .. } => constrained(alloc, op)?,
-        Op::DropConstraint { table, name, .. } => {
-            format!(in alloc; "drop_constraint {} {}", word(table), word(name))?
-        }
-    };
-    match op {
-        Op::AddColumn { up, .. } => maybe(alloc, &mut all, " up=", up)?,
-        Op::DropColumn { down, .. } => maybe(alloc, &mut all, " down=", down)?,
-        Op::DropConstraint { up, down, .. } => {
-            if let Some(up) = up {
-                put(&mut all, " up=", Some(ways(alloc, up)?))?;
-            }
-            if let Some(down) = down {
-                put(&mut all, " down=", Some(ways(alloc, down)?))?;
-            }
-        }
-        _ => {}
+        Op::AlterColumn { .. } => altered(alloc, op),
+        Op::CreateConstraint { .. } => constrained(alloc, op),
+        Op::DropConstraint {
+            table,
+            name,
+            up,
+            down,
+        } => freed(alloc, table, name, up, down),
+        _ => moved(alloc, op),
     }
-    Ok(all)
 }
 
 /// The name, and each operation behind `; `.
