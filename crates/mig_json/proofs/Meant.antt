@@ -18,7 +18,7 @@ use Rattle.mig_json.specs.declared.faults.JsonFault.{JsonFault}
 use Rattle.mig_lens.specs.declared.faults.Member.{Member}
 use Rattle.mig_json.specs.Demand.{Demand, AreMet, IsExpression, inside}
 use Rattle.mig_json.specs.Kind as kind
-use Rattle.mig_json.specs.Kind.{Kind, Fields, needs, type_of, is_text, is_object, is_flag, has_type, is_word, is_list, is_filled, text_of, items_of, members_of, needed, within, member_path, element_path, item_demands, name_demands, pairs_demands, each_demands, demands, field_demands, ValueOf, ValuesOf, Has, May, IsTextOf, AreItems, IsNewName, IsPair, ArePairs, AreEach, IsWays, Is, Are}
+use Rattle.mig_json.specs.Kind.{Kind, Fields, needs, type_of, is_text, is_object, is_flag, has_type, is_list, is_filled, text_of, items_of, members_of, needed, within, member_path, element_path, item_demands, name_demands, pairs_demands, each_demands, demands, field_demands, ValueOf, ValuesOf, Has, May, IsTextOf, AreItems, IsNewName, IsPair, ArePairs, AreEach, IsWays, Is, Are}
 use Rattle.mig_json.specs.Name.{is_part_name}
 use Rattle.mig_json.proofs.Demands.{met_append, met_parts}
 

@@ -1,19 +1,19 @@
 //! Members that hold objects and arrays.
 
-ghost use Rattle.std.specs.Prelude.{◌≡◌, [], map, length, true, false, not, codes, Option, List, option_map, unwrap_or, Some, MatchOption};
+ghost use Rattle.std.specs.Prelude.{◌≡◌, [], map, true, false, codes, Option, List, option_map, unwrap_or, Some, MatchOption};
 ghost use Rattle.std.specs.List.{list_any};
 ghost use Rattle.serde_json.specs.Data.{array};
 ghost use Rattle.serde_json.specs.Find.{as_str};
 ghost use Rattle.serde_json.specs.View.{view, items_view, members_view};
 ghost use Rattle.sql_base.specs.declared.exprs.Expr.{Expr};
 ghost use Rattle.mig_json.specs.Demand.{Reads, inside};
-ghost use Rattle.mig_json.specs.Kind.{needed, within, demands, field_demands, member_path, element_path, Has, May, Is, Are, ValuesOf, needs, is_list, is_filled};
+ghost use Rattle.mig_json.specs.Kind.{demands, member_path, element_path, needs, is_list, is_filled};
 ghost use Rattle.mig_json.specs.Kind as kind;
 ghost use Rattle.mig_json.specs.Reading.{has_list};
 ghost use Rattle.mig_json.specs.Table as table;
 
 use crate::faults as faults;
-use crate::faults::{JsonFault, bad, inside, member_fault};
+use crate::faults::{JsonFault, bad, inside};
 use crate::members::{Object, is_of};
 use crate::names::is_part_name;
 use crate::values::{expression_in, may_flag, may_literal, read_expression, read_name, read_type};

@@ -1,6 +1,6 @@
 //! From a text to a migration, by way of its JSON value.
 
-ghost use Rattle.std.specs.Prelude.{◌≡◌, ◌≢◌, [], Some, true, false, codes, option_map, map, length, IfErr, IfOk, MatchResult};
+ghost use Rattle.std.specs.Prelude.{◌≡◌, ◌≢◌, [], Some, true, false, codes, option_map, map, IfErr, IfOk, MatchResult};
 ghost use Rattle.serde_json.specs.View.{view, items_view, members_view};
 ghost use Rattle.mig_json.specs.Demand.{Reads};
 ghost use Rattle.mig_json.specs.Kind.{demands, item_demands, AreItems};

@@ -6,9 +6,8 @@ ghost use Rattle.sql_base.specs.declared.exprs.Expr.{Expr};
 ghost use Rattle.sql_base.specs.declared.exprs.Expr.TheVariants.{Lit};
 ghost use Rattle.sql_base.specs.declared.values.Value as sql;
 ghost use Rattle.mig_json.specs.Demand.{Reads, IsExpression, inside, test};
-ghost use Rattle.mig_json.specs.Kind.{needed, within, demands, member_path, Has, May, Is};
+ghost use Rattle.mig_json.specs.Kind.{needed, demands, member_path, Has, Is};
 ghost use Rattle.mig_json.specs.Kind as kind;
-ghost use Rattle.mig_lens.specs.declared.faults.Member.TheVariants as part;
 
 use crate::faults::{JsonFault, bad, member_fault};
 use crate::names::is_part_name;
