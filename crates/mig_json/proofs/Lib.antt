@@ -1,7 +1,11 @@
+pub mod Arrays
 pub mod Demands
 pub mod Elements
 pub mod Keys
+pub mod Literals
+pub mod Loops
 pub mod Meant
+pub mod Pairs
 pub mod Relating
 pub mod Steps
 pub mod Texts

@@ -1,38 +1,39 @@
 -- The texts that are migrations, as a relation between a JSON value and what it stands for.
-use Rattle.std.specs.Prelude.{◌≡◌, ◌≢◌, ◌⊎◌, ℕ, ◌≤◌, List, [], ◌∷◌, true, codes, length, Some}
-use Rattle.serde_json.specs.Data.{Data, string, array, no_items, item}
+use Rattle.std.specs.Prelude.{◌≡◌, ◌≢◌, ◌⊎◌, ℕ, ◌≤◌, List, [], true, codes, length, Some}
+use Rattle.serde_json.specs.Data.{Data, Items, string, array}
 use Rattle.serde_json.specs.Find.{get}
 use Rattle.mig_lens.specs.declared.migrations.Migration.{Migration}
 use Rattle.mig_lens.specs.declared.migrations.Op.{Op}
 use Rattle.mig_json.specs.declared.faults.JsonFault.{JsonFault}
 use Rattle.mig_json.specs.declared.faults.JsonFault.TheVariants.{NoMemory}
-use Rattle.mig_json.specs.declared.members.Object.TheVariants as kind
+use Rattle.mig_json.specs.declared.members.Object.TheVariants as which
 use Rattle.mig_json.specs.Demand.{FirstUnmet}
-use Rattle.mig_json.specs.Kind.{ValuesOf, Is, object}
+use Rattle.mig_json.specs.Kind.{ValuesOf, Is, object, AreItems}
 use Rattle.mig_json.specs.Name.{is_name}
-use Rattle.mig_json.specs.Reading.{is_of, json_in, text_demands, max_text}
-use Rattle.mig_json.specs.Table.{add_column, add_column_of}
+use Rattle.mig_json.specs.Reading.{Asked, asked, is_of, json_in, text_demands, max_text}
+use Rattle.mig_json.specs.Table.{form}
+
+-- What is asked for, with members of these values, is this operation.
+abbrev pub Makes : Asked → Op → Type 0
+Makes it op =
+    (xs : ValuesOf (form it.operation).fields)
+    × Is (object (form it.operation).fields) it.value xs × (op ≡ (form it.operation).made xs)
 
 -- the value is this operation, under its name
-pub record IsOperation (d : Data) (op : Op) : Type 0 where
-  pub known : is_of kind.Operation d ≡ true
-  pub value : Data
-  pub held : get (codes "add_column") d ≡ Some value
-  pub members : ValuesOf add_column
-  pub are : Is (object add_column) value members
-  pub is : op ≡ add_column_of members
+abbrev pub IsOperation : Data → Op → Type 0
+IsOperation d op = (it : Asked) × (asked d ≡ Some it) × Makes it op
 
--- the value is this migration, which so far has one operation
+-- the value is this migration
 pub record IsMigration (d : Data) (m : Migration) : Type 0 where
-  pub known : is_of kind.Migration d ≡ true
+  pub known : is_of which.Migration d ≡ true
   pub name : List ℕ
   pub named : get (codes "name") d ≡ Some (string name)
   pub is_name : is_name name ≡ true
-  pub value : Data
-  pub held : get (codes "operations") d ≡ Some (array (item value no_items))
-  pub operation : Op
-  pub is_operation : IsOperation value operation
-  pub is : m ≡ record { name = name; operations = operation ∷ [] }
+  pub values : Items
+  pub held : get (codes "operations") d ≡ Some (array values)
+  pub operations : List Op
+  pub are : AreItems (λ before. IsOperation) [] values operations
+  pub is : m ≡ record { name = name; operations = operations }
 
 -- The text reads as this migration.
 pub record IsReading (text : List ℕ) (m : Migration) : Type 0 where

@@ -2,6 +2,8 @@
 
 ghost use Rattle.mig_json.specs.Migration.{TextsReadOrFail, NeverBoth, TextsReadOnce, TextsFailOnce, FaultsWantNothing};
 
+use sql_parse::one_tree;
+
 /// A text has a first fault exactly where it reads as no migration; it has one at most, and reads as one at most. Want of
 /// memory is the fault of no text.
 pub fn texts_read_or_fail()
@@ -11,5 +13,6 @@ pub fn texts_read_or_fail()
     ensures fails_once { TextsFailOnce }
     ensures wants_nothing { FaultsWantNothing }
 {
+    one_tree();
     sql_parse::texts_read_or_fail();
 }

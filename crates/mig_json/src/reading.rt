@@ -1,205 +1,127 @@
 //! From a text to a migration, by way of its JSON value.
 
-ghost use Rattle.std.specs.Prelude.{◌≡◌, ◌≢◌, [], Some, true, false, codes, option_map, IfErr, IfOk, MatchOption, MatchResult};
-ghost use Rattle.serde_json.specs.View.{view, items_view};
-ghost use Rattle.sql_base.specs.declared.exprs.Expr.{Expr};
-ghost use Rattle.mig_json.specs.Demand.{Reads, IsExpression, FirstUnmet, inside};
-ghost use Rattle.mig_json.specs.Kind.{needed, within, demands, field_demands, Has, May, Is, Are, ValuesOf};
+ghost use Rattle.std.specs.Prelude.{◌≡◌, ◌≢◌, [], Some, true, false, codes, option_map, map, IfErr, IfOk, MatchResult};
+ghost use Rattle.serde_json.specs.View.{view, items_view, members_view};
+ghost use Rattle.mig_json.specs.Demand.{Reads};
+ghost use Rattle.mig_json.specs.Kind.{demands, item_demands, AreItems};
 ghost use Rattle.mig_json.specs.Kind as kind;
 ghost use Rattle.serde_json.specs.Data.{string};
-ghost use Rattle.mig_json.specs.Migration.{IsOperation, IsMigration, IsReading, Fails};
+ghost use Rattle.serde_json.specs.Find.{get};
+ghost use Rattle.mig_json.specs.Migration.{Makes, IsOperation, IsMigration, IsReading, Fails};
 ghost use Rattle.mig_json.specs.Name as spec_name;
 ghost use Rattle.mig_json.specs.Reading as spec;
+ghost use Rattle.mig_json.specs.Reading.{Asked};
 ghost use Rattle.mig_json.specs.Table as table;
-ghost use Rattle.mig_lens.specs.declared.faults.Member.TheVariants as part;
 
 use crate::faults::{JsonFault, inside, top};
-use crate::members::{Object, is_of};
-use crate::names::{is_name, is_part_name};
-use mig_lens::{ColumnDef, Member, Migration, Op, Place};
-use serde_json::Value;
-use sql_base::{Expr, List, Name, NoMemory, Ty};
-use sql_parse::{ParseFault, parse_expr};
+use crate::members::{Object, Operation, is_of};
+use crate::names::is_name;
+use crate::objects::elements;
+use crate::operations::read_members;
+use mig_lens::{Migration, Op};
+use serde_json::{Map, Value};
+use sql_base::{List, Name};
 use std::alloc::Global;
 
 /// The bytes that a migration's text may have.
 const MAX_TEXT: usize = 65536;
 
-/// The bytes that the text of an expression may have.
-const MAX_EXPRESSION: usize = 65536;
+// ---- operations
 
-/// The type of this name, of those that a column may have so far.
-fn type_of(text: &str) -> Option<Ty>
-    ensures { result ≡ kind.type_of text.now }
+/// The only member of an object.
+fn only_in(map: &Map<String, Value>) -> Option<(&str, &Value)>
+    ensures { option_map (λ m. (m.0.now, view m.1.now)) result ≡ spec.only_in (members_view map.now.entries) }
 {
-    match text {
-        "bigint" => Some(Ty::Bigint),
-        "text" => Some(Ty::Text),
+    let mut members = map.iter();
+    let (key, value) = members.next()?;
+    match members.next() {
+        Some(_) => None,
+        None => Some((key.as_str(), value)),
+    }
+}
+
+fn only_member(value: &Value) -> Option<(&str, &Value)>
+    ensures { option_map (λ m. (m.0.now, view m.1.now)) result ≡ spec.only_member (view value.now) }
+{
+    only_in(value.as_object()?)
+}
+
+fn is_check(value: &Value) -> bool
+    ensures { result ≡ kind.needs (kind.is_word (codes "check")) (get (codes "type") (view value.now)) }
+{
+    match value.get("type").and_then(Value::as_str) {
+        Some(text) => text == "check",
+        None => false,
+    }
+}
+
+/// The operation of this name, which holds this value.
+fn operation_of(key: &str, value: &Value) -> Option<Operation>
+    ensures { result ≡ table.operation_of key.now (view value.now) }
+{
+    match key {
+        "create_table" => Some(Operation::CreateTable),
+        "drop_table" => Some(Operation::DropTable),
+        "rename_table" => Some(Operation::RenameTable),
+        "add_column" => Some(Operation::AddColumn),
+        "drop_column" => Some(Operation::DropColumn),
+        "rename_column" => Some(Operation::RenameColumn),
+        "alter_column" => Some(Operation::AlterColumn),
+        "create_constraint" => {
+            if is_check(value) {
+                Some(Operation::CreateCheck)
+            } else {
+                Some(Operation::CreateUnique)
+            }
+        }
+        "drop_constraint" => Some(Operation::DropConstraint),
         _ => None,
     }
 }
 
-/// The expression that a text reads as, or `None` where it reads as none. An error is want of memory.
-fn expression_in(alloc: Global, text: &[u8]) -> Result<Option<Expr>, NoMemory>
-    ensures { IfOk result (λ o. MatchOption o ((a : Expr) → IsExpression text.now a → ⊥) (λ a. IsExpression text.now a)) }
+/// What an object under an operation's name is.
+fn read_object(alloc: Global, at: u64, operation: Operation, value: &Value) -> Result<Op, JsonFault>
+    ensures { Reads (demands (kind.object (table.form operation).fields) at [] (view value.now))
+        (Makes (record { operation = operation; value = view value.now })) result }
 {
-    if text.len() > MAX_EXPRESSION {
-        return Ok(None);
-    }
-    match parse_expr(alloc, text) {
-        Ok(tree) => Ok(Some(tree)),
-        Err(ParseFault::NoMemory) => Err(NoMemory),
-        Err(_) => Ok(None),
-    }
-}
-
-/// The name of a table or a column, which must be there.
-fn read_name(alloc: Global, at: u64, path: &str, value: Option<&Value>) -> Result<Name, JsonFault>
-    ensures { let d = option_map (λ v. view v.now) value.entry in
-        Reads (needed (demands kind.name at path.now) (inside at path.now) d) (λ x. Has (Is kind.name) d x) result }
-{
-    let Some(text) = value.and_then(Value::as_str) else {
-        return Err(inside(alloc, at, path));
-    };
-    if !is_part_name(text) {
-        return Err(inside(alloc, at, path));
-    }
-    Ok(Name::from_slice(alloc, text.as_bytes())?)
-}
-
-/// A type, which must be there.
-fn read_type(alloc: Global, at: u64, path: &str, value: Option<&Value>) -> Result<Ty, JsonFault>
-    ensures { let d = option_map (λ v. view v.now) value.entry in
-        Reads (needed (demands kind.«type» at path.now) (inside at path.now) d) (λ x. Has (Is kind.«type») d x) result }
-{
-    let Some(text) = value.and_then(Value::as_str) else {
-        return Err(inside(alloc, at, path));
-    };
-    match type_of(text) {
-        Some(ty) => Ok(ty),
-        None => Err(JsonFault::BadType(Place {
-            operation: at,
-            member: Member::TypeName,
-        })),
-    }
-}
-
-/// `true`, which must be there.
-fn read_yes(alloc: Global, at: u64, path: &str, value: Option<&Value>) -> Result<(), JsonFault>
-    ensures { let d = option_map (λ v. view v.now) value.entry in
-        Reads (needed (demands kind.yes at path.now) (inside at path.now) d) (λ x. Has (Is kind.yes) d tt) result }
-{
-    match value.and_then(Value::as_bool) {
-        Some(yes) if yes => Ok(()),
-        _ => Err(inside(alloc, at, path)),
-    }
-}
-
-/// An expression, where one is written.
-fn read_expression(
-    alloc: Global,
-    at: u64,
-    member: Member,
-    path: &str,
-    value: Option<&Value>,
-) -> Result<Option<Expr>, JsonFault>
-    ensures { let d = option_map (λ v. view v.now) value.entry in
-        Reads (within (demands (kind.expression member) at path.now) d) (λ x. May (Is (kind.expression member)) d x) result }
-{
-    let Some(value) = value else {
-        return Ok(None);
-    };
-    let Some(text) = value.as_str() else {
-        return Err(inside(alloc, at, path));
-    };
-    match expression_in(alloc, text.as_bytes())? {
-        Some(tree) => Ok(Some(tree)),
-        None => Err(JsonFault::BadExpr(Place {
-            operation: at,
-            member,
-        })),
-    }
-}
-
-fn column_members(alloc: Global, at: u64, column: &Value) -> Result<ColumnDef, JsonFault>
-    ensures { Reads (field_demands table.column at (codes ".column") (view column.now))
-        (λ it. (xs : ValuesOf table.column) × Are table.column (view column.now) xs × (it ≡ table.column_of xs)) result }
-{
-    let name = read_name(alloc, at, ".column.name", column.get("name"))?;
-    let ty = read_type(alloc, at, ".column.type", column.get("type"))?;
-    read_yes(alloc, at, ".column.nullable", column.get("nullable"))?;
-    Ok(ColumnDef {
-        name,
-        ty,
-        nullable: true,
-        pk: false,
-        unique: false,
-        default: sql_base::Value::Null,
-        check: None,
-    })
-}
-
-fn read_column(alloc: Global, at: u64, value: Option<&Value>) -> Result<ColumnDef, JsonFault>
-    ensures { let d = option_map (λ v. view v.now) value.entry in
-        Reads (needed (demands (kind.object table.column) at (codes ".column")) (inside at (codes ".column")) d)
-        (λ it. (xs : ValuesOf table.column) × Has (Is (kind.object table.column)) d xs × (it ≡ table.column_of xs)) result }
-{
-    let Some(column) = value else {
-        return Err(inside(alloc, at, ".column"));
-    };
-    if !column.is_object() {
-        return Err(inside(alloc, at, ".column"));
-    }
-    if !is_of(Object::Column, column) {
+    if !is_of(Object::Of(operation), value) {
         return Err(inside(alloc, at, ""));
     }
-    column_members(alloc, at, column)
+    read_members(alloc, at, operation, value)
 }
 
-fn add_column_members(alloc: Global, at: u64, operation: &Value) -> Result<Op, JsonFault>
-    ensures { Reads (field_demands table.add_column at [] (view operation.now))
-        (λ it. (xs : ValuesOf table.add_column) × Are table.add_column (view operation.now) xs × (it ≡ table.add_column_of xs)) result }
+fn read_asked(alloc: Global, at: u64, key: &str, value: &Value) -> Result<Op, JsonFault>
+    ensures { let o = spec.asked_by key.now (view value.now) in
+        Reads (spec.asked_demands at o) (λ op. (it : Asked) × (o ≡ Some it) × Makes it op) result }
 {
-    let table = read_name(alloc, at, ".table", operation.get("table"))?;
-    let column = read_column(alloc, at, operation.get("column"))?;
-    let up = read_expression(alloc, at, Member::Up, ".up", operation.get("up"))?;
-    Ok(Op::AddColumn { table, column, up })
+    let Some(operation) = operation_of(key, value) else {
+        return Err(inside(alloc, at, ""));
+    };
+    read_object(alloc, at, operation, value)
 }
 
-#[tactic(auto, unfolding(crate::specs::Reading::operation_demands))]
+#[tactic(auto, unfolding(crate::specs::Reading::asked))]
 fn read_operation(alloc: Global, at: u64, value: &Value) -> Result<Op, JsonFault>
-    ensures { Reads (spec.operation_demands at (view value.now)) (λ it. IsOperation (view value.now) it) result }
+    ensures { Reads (spec.asked_demands at (spec.asked (view value.now))) (λ it. IsOperation (view value.now) it) result }
 {
-    if !is_of(Object::Operation, value) {
-        return Err(inside(alloc, at, ""));
-    }
-    let Some(operation) = value.get("add_column") else {
+    let Some((key, held)) = only_member(value) else {
         return Err(inside(alloc, at, ""));
     };
-    if !is_of(Object::AddColumn, operation) {
-        return Err(inside(alloc, at, ""));
-    }
-    add_column_members(alloc, at, operation)
+    read_asked(alloc, at, key, held)
 }
 
-#[tactic(auto, using(crate::proofs::Elements::only_of_many, crate::proofs::Elements::only_of_none))]
-fn only(items: &[Value]) -> Option<&Value>
-    ensures { option_map (λ v. view v.now) result ≡ spec.only_in (items_view items.now) }
+fn read_operations(alloc: Global, items: &[Value]) -> Result<List<Op>, JsonFault>
+    ensures { Reads (item_demands spec.operation_demands [] (items_view items.now))
+        (λ xs. AreItems (λ before. IsOperation) [] (items_view items.now) xs) result }
 {
-    match items {
-        [] => None,
-        [only] => Some(only),
-        [_, _, ..] => None,
+    let mut operations = List::new(alloc);
+    for (at, item) in items.iter().enumerate() {
+        operations.push(read_operation(alloc, at as u64, item)?)?;
     }
+    Ok(operations)
 }
 
-/// The only element of an array.
-#[tactic(auto, unfolding(crate::specs::Reading::single))]
-fn single(value: Option<&Value>) -> Option<&Value>
-    ensures { option_map (λ v. view v.now) result ≡ spec.single (option_map (λ v. view v.now) value.entry) }
-{
-    only(value.and_then(Value::as_array)?.as_slice())
-}
+// ---- the whole
 
 /// The name of a migration, which must be there.
 fn migration_name(alloc: Global, value: Option<&Value>) -> Result<Name, JsonFault>
@@ -224,11 +146,10 @@ fn read_value(alloc: Global, value: &Value) -> Result<Migration, JsonFault>
         return Err(top(alloc, "$"));
     }
     let name = migration_name(alloc, value.get("name"))?;
-    let Some(operation) = single(value.get("operations")) else {
+    let Some(items) = elements(value.get("operations")) else {
         return Err(top(alloc, "operations"));
     };
-    let mut operations = List::new(alloc);
-    operations.push(read_operation(alloc, 0, operation)?)?;
+    let operations = read_operations(alloc, items)?;
     Ok(Migration { name, operations })
 }
 

@@ -4,9 +4,9 @@ use Rattle.mig_json.proofs.laws.texts_read_or_fail.Goals as goal
 
 pub returns : goal.returns
 returns c = record {
-  either = texts_read_or_fail c.texts_read_or_fail.ensures.either c.texts_read_or_fail.ensures.never_both;
+  either = texts_read_or_fail c.one_tree.ensures c.texts_read_or_fail.ensures.either c.texts_read_or_fail.ensures.never_both;
   never_both = texts_never_both;
-  reads_once = texts_read_once c.texts_read_or_fail.ensures.reads_once;
+  reads_once = texts_read_once c.one_tree.ensures;
   fails_once = texts_fail_once;
   wants_nothing = faults_want_nothing;
 }
