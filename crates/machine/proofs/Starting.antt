@@ -193,10 +193,10 @@ there_is (Some x) h = (x, refl)
 -- Each table of the old version has a lens, and each table with a lens is one of the new version's.
 planned_lens : Below → (s : State) (m : Migration) (plan : Plan) → IsState s → Begins s m plan → (number : ℕ) → is_some (table_numbered s.schema number) ≡ true → (lens : Lens) × (lens_among plan.fates number ≡ Some lens)
 planned_lens below s m plan stands begins number known =
-    there_is (lens_among plan.fates number) (below.lenses s.schema s.next_table m plan stands.version.schema_stands begins.added begins.is_plan number ∙ known)
+    there_is (lens_among plan.fates number) (below.lenses s.schema s.next_table m plan stands.version.schema_stands stands.version.below begins.added begins.is_plan number ∙ known)
 
 planned_join : Below → (s : State) (m : Migration) (plan : Plan) → IsState s → Begins s m plan → (number : ℕ) (lens : Lens) → lens_among plan.fates number ≡ Some lens → Joins lens number s.schema plan.schema
-planned_join below s m plan stands begins = below.join s.schema s.next_table m plan stands.version.schema_stands begins.is_plan
+planned_join below s m plan stands begins = below.join s.schema s.next_table m plan stands.version.schema_stands stands.version.below begins.is_plan
 
 known_shape : (found : Option Table) (shape : Shape) → option_map (λ table. table.2) found ≡ Some shape → is_some found ≡ true
 known_shape None shape h = cc
@@ -204,10 +204,10 @@ known_shape (Some table) shape h = refl
 
 planned_version : Below → (s : State) (m : Migration) (plan : Plan) → IsState s → Begins s m plan → VersionStands plan.schema (numbers_of s) s.next_table
 planned_version below s m plan stands begins =
-    let same = below.tables s.schema s.next_table m plan stands.version.schema_stands begins.added begins.is_plan in
+    let same = below.tables s.schema s.next_table m plan stands.version.schema_stands stands.version.below begins.added begins.is_plan in
     let ns = numbers_of s in
     record {
-      schema_stands = below.schemas s.schema s.next_table m plan stands.version.schema_stands begins.is_plan;
+      schema_stands = below.schemas s.schema s.next_table m plan stands.version.schema_stands stands.version.below begins.is_plan;
       rows = all_by_titles ns plan.schema.tables ∙ ap (list_all (λ (title : Title). list_any (nat_eq title.1) ns)) same ∙ sym (all_by_titles ns s.schema.tables) ∙ stands.version.rows;
       known = all_so (λ n. is_some (table_numbered s.schema n)) (λ n. is_some (table_numbered plan.schema n)) still_known ns stands.version.known;
       below = titles_below s.next_table plan.schema.tables (subst (Each (λ (title : Title). title.1 < s.next_table)) (sym same) (below_titles s.next_table s.schema.tables stands.version.below));

@@ -69,7 +69,6 @@ unplanned (plan_fault.DownNeeded table column) = DownNeeded table column
 unplanned (plan_fault.BadExpr place) = BadExpr place
 unplanned (plan_fault.BadType place) = BadType place
 unplanned (plan_fault.Limit which) = Limit which
-unplanned (plan_fault.NotYet at) = not_yet at
 unplanned plan_fault.NoMemory = Limit []
 
 abbrev pub planned : State → Migration → Result Plan Refusal

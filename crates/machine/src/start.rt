@@ -31,7 +31,14 @@ fn is_run(op: &Op) -> bool
 {
     match op {
         Op::AddColumn { .. } => true,
-        _ => false,
+        Op::CreateTable { .. }
+        | Op::DropTable { .. }
+        | Op::RenameTable { .. }
+        | Op::DropColumn { .. }
+        | Op::RenameColumn { .. }
+        | Op::AlterColumn { .. }
+        | Op::CreateConstraint { .. }
+        | Op::DropConstraint { .. } => false,
     }
 }
 
@@ -100,7 +107,6 @@ fn plan_refusal(alloc: Global, fault: PlanFault) -> Result<Refusal, NoMemory>
         PlanFault::BadExpr(place) => Refusal::BadExpr(place),
         PlanFault::BadType(place) => Refusal::BadType(place),
         PlanFault::Limit(which) => Refusal::Limit(which),
-        PlanFault::NotYet(at) => not_yet(alloc, at)?,
         PlanFault::NoMemory => return Err(NoMemory),
     };
     Ok(refusal)

@@ -1,238 +1,250 @@
--- The lenses of a plan: table by table, and operation by operation.
-use Rattle.std.proofs.Common.{◌≡◌, ◌∙◌, ℕ, zero, suc, ◌+◌, List, [], ◌∷◌, ◌++◌, Bool, true, false, not, ◌&&◌, ◌||◌, Option, Some, None, Ok, Err, if◌then◌else◌, length, map, ap, refl, sym, subst, arith, append_assoc, append-nil}
-use Rattle.std.specs.Prelude.{◌==◌, codes, slice_index_or, find, is_some, nat_le}
-use Rattle.std.specs.List.{list_all, list_any, zip}
-use Rattle.std.specs.Option.{option_map_or, ok_or, option_and_then, option_map}
-use Rattle.std.proofs.lemmas.Bool.{false≢true}
+-- The lenses and shapes of a plan.
+use Rattle.std.proofs.Common.{◌≡◌, ◌∙◌, ℕ, zero, suc, ◌≤◌, List, [], ◌∷◌, Bool, true, false, not, ◌||◌, Option, Some, None, Ok, Err, if◌then◌else◌, length, map, ap, refl, sym, subst, arith}
+use Rattle.std.specs.Prelude.{◌==◌, codes, find, is_some, nat_le, nat_lt, slice_get}
+use Rattle.std.specs.List.{cons_option, filter_map, list_all, list_any}
+use Rattle.std.specs.Option.{option_and_then, option_map}
+use Rattle.std.specs.Str.{bytes_eq}
 use Rattle.std.proofs.lemmas.Bool.Decides.{nat_tests}
 use Rattle.sql_base.specs.declared.exprs.Expr.{Expr}
-use Rattle.sql_base.specs.declared.shapes.Check.{Check}
+use Rattle.sql_base.specs.declared.shapes.Column.{Column}
 use Rattle.sql_base.specs.declared.shapes.Schema.{Schema}
 use Rattle.sql_base.specs.declared.shapes.Shape.{Shape}
-use Rattle.sql_base.specs.Outcome.{and_then, every}
+use Rattle.sql_base.specs.declared.shapes.Unique.{Unique}
+use Rattle.sql_base.specs.declared.values.Ty.{Ty}
+use Rattle.sql_base.specs.declared.values.Ty.TheVariants as ty
 use Rattle.sql_base.specs.Fit.{has_type}
 use Rattle.sql_base.specs.Laws.{all_true, and_then_ok, both}
-use Rattle.sql_eval.specs.Shape.{WellFormed, all_different, is_condition, max_columns}
-use Rattle.sql_eval.specs.Typing.{type_of}
+use Rattle.sql_base.specs.Outcome.{every}
+use Rattle.sql_eval.specs.Shape.{WellFormed, all_different, has_places, is_condition, is_key, max_columns}
+use Rattle.sql_eval.specs.Typing.{Typed, same, type_of}
 use Rattle.mig_lens.specs.declared.columns.Lens.{Lens}
-use Rattle.mig_lens.specs.declared.faults.Place.{Place}
-use Rattle.mig_lens.specs.declared.faults.PlanFault.{PlanFault}
-use Rattle.mig_lens.specs.declared.faults.PlanFault.TheVariants.{BadExpr, BadType, Exists, Limit, NoSuchTable}
+use Rattle.mig_lens.specs.declared.drafts.Draft.{Draft}
+use Rattle.mig_lens.specs.declared.drafts.DraftCheck.{DraftCheck}
+use Rattle.mig_lens.specs.declared.drafts.DraftColumn.{DraftColumn}
+use Rattle.mig_lens.specs.declared.drafts.DraftTable.{DraftTable}
+use Rattle.mig_lens.specs.declared.faults.Member.{Member}
 use Rattle.mig_lens.specs.declared.faults.Member.TheVariants as member
-use Rattle.mig_lens.specs.declared.migrations.ColumnDef.{ColumnDef}
+use Rattle.mig_lens.specs.declared.faults.Place.{Place}
+use Rattle.mig_lens.specs.declared.faults.PlanFault.TheVariants.{BadExpr, Limit}
 use Rattle.mig_lens.specs.declared.migrations.Migration.{Migration}
-use Rattle.mig_lens.specs.declared.migrations.Op.{Op}
-use Rattle.mig_lens.specs.declared.migrations.Op.TheVariants as op
-use Rattle.mig_lens.specs.declared.planning.Draft.{Draft}
-use Rattle.mig_lens.specs.declared.plans.Fate.{Fate}
-use Rattle.mig_lens.specs.declared.plans.Fate.TheVariants.{Kept}
 use Rattle.mig_lens.specs.declared.plans.Plan.{Plan}
-use Rattle.mig_lens.specs.Laws.{AddedColumnsLoseNothing, HasFates, HasLenses, IsSchema, KeepsAll, KeepsTables, OfAddedColumns, PlannedLensesJoin, PlansKeepSchemas, numbers_differ}
-use Rattle.mig_lens.specs.Lens.{cell_fits, cell_types, cells_fit, types_as}
-use Rattle.mig_lens.specs.Plan.{Step, Table, all_done, bad_check, bad_in, bad_up, begun, carried, cell_of, check_place, checks_of, column_added, column_fault, column_faults, column_of, done, earlier, fate_with, first, first_bad, has_column, in_place, is_first, is_taken, kept, lens_in, lens_of, plan_of, plan_with, shape_numbered, shape_with, table_meant, table_numbered, table_with, when, with_cell, without_fault}
-use Rattle.mig_lens.proofs.WiderShapes.{Wider, first_shape, grown_shape, whole_shape}
-use Rattle.mig_lens.proofs.Growing.{Hangs, first_lens, grown_lens, is_fresh}
+use Rattle.mig_lens.specs.Finish.{fate, fate_of, finished, lens_of_columns, new_cells, new_side, new_table, old_cells, old_side, place, shape_of, unique_of}
+use Rattle.mig_lens.specs.Laws.{AllBelow, IsBelow, IsSchema, PlannedLensesJoin, PlansKeepSchemas, numbers_differ}
+use Rattle.mig_lens.specs.Lens.{IsWellFormed, carries, cells_fit, cells_type, fits, types_as}
+use Rattle.mig_lens.specs.Places.{bad, bad_check, bad_column, bad_in, bad_table, bad_way, check_place, earlier, first_bad, is_first, least, shape_now}
+use Rattle.mig_lens.specs.Plan.{all_done, begun, carried, first_table, kept, lens_in, lens_of, plan_of, typed}
+use Rattle.mig_lens.specs.Versions.{Table, shape_numbered}
+use Rattle.mig_lens.proofs.Each.{Each, Pairwise, each_both, each_more}
+use Rattle.mig_lens.proofs.Fine.{without_fault_ok}
+use Rattle.mig_lens.proofs.Names.{Differ, Distinct, Stands, all_differ, not_both}
+use Rattle.mig_lens.proofs.Sides.{Carried, FitsOne, Twin, TypesOne, at_its_place, both_ways, carries_at, cells, cells_are_fit, cells_are_typed, fits_default, new_are, old_are, there}
+use Rattle.mig_lens.proofs.Sound.{ColumnSound, Marked, Stood, TableSound}
+use Rattle.mig_lens.proofs.Whole.{Apart, DraftSound, NewOne, TitlesDiffer, all_done_soundly}
 
--- ---- tables with different numbers
+-- ---- the new version begins as the old one
 
-abbrev pub AllOf : (Table → Type 0) → List Table → Type 0
-AllOf P [] = Unit {0}
-AllOf P (t ∷ ts) = P t × AllOf P ts
+first_columns : (cs : List Column) → list_all (λ c. has_type (Some c.ty) c.default) cs ≡ true → Each ColumnSound (map carried cs)
+first_columns [] h = tt
+first_columns (c ∷ cs) h =
+    let parts = both (has_type (Some c.ty) c.default) (list_all (λ c. has_type (Some c.ty) c.default) cs) h in
+    (record { now_fits = parts.0; old_fits = parts.0; twin = refl; marked = tt }, first_columns cs parts.1)
 
--- a table of this one's number is this one
-abbrev pub Only : Table → List Table → Type 0
-Only table = AllOf (λ t. (t.1 == table.1) ≡ true → t ≡ table)
-
-abbrev pub numbers : List Table → List ℕ
-numbers tables = map (λ t. t.1) tables
-
-not_true : (b c : Bool) → (not b && c) ≡ true → (b ≡ false) × (c ≡ true)
-not_true true c h = cc
-not_true false c h = (refl, h)
-
-no_other : (table : Table) (n : ℕ) (ts : List Table) → n ≡ table.1 → list_any (λ m. m == n) (numbers ts) ≡ false → Only table ts
-no_other table n [] e h = tt
-no_other table n (t ∷ ts) e h = by_test (no_other table n ts e) (t.1 == n) refl h
+first_apart : (c : Column) (cs : List Column) → list_any (bytes_eq c.name) (map (λ d. d.name) cs) ≡ false → Each (λ d. Differ (Some c) (new_side d)) (map carried cs)
+first_apart c [] h = tt
+first_apart c (d ∷ cs) h = by_test (first_apart c cs) (bytes_eq c.name d.name) refl h
   where
-    by_test : (list_any (λ m. m == n) (numbers ts) ≡ false → Only table ts) → (b : Bool) → (t.1 == n) ≡ b → (b || list_any (λ m. m == n) (numbers ts)) ≡ false → Only table (t ∷ ts)
+    by_test : (list_any (bytes_eq c.name) (map (λ d. d.name) cs) ≡ false → Each (λ d. Differ (Some c) (new_side d)) (map carried cs)) → (b : Bool) → bytes_eq c.name d.name ≡ b → (b || list_any (bytes_eq c.name) (map (λ d. d.name) cs)) ≡ false → Each (λ d. Differ (Some c) (new_side d)) (map carried (d ∷ cs))
     by_test more true g k = cc
-    by_test more false g k = ((λ same. absurd (grind (arith, nat_tests))), more k)
+    by_test more false g k = (g, more k)
 
-found_number : (q : Table → Bool) (ts : List Table) (table : Table) → find q ts ≡ Some table → list_any (λ m. m == table.1) (numbers ts) ≡ true
-found_number q [] table h = cc
-found_number q (t ∷ ts) table h = by_test (found_number q ts table) (q t) h
-  where
-    by_test : (find q ts ≡ Some table → list_any (λ m. m == table.1) (numbers ts) ≡ true) → (b : Bool) → (if b then Some t else find q ts) ≡ Some table → (t.1 == table.1 || list_any (λ m. m == table.1) (numbers ts)) ≡ true
-    by_test more true k = let is : t ≡ table = cc in subst (λ u. (t.1 == u.1 || list_any (λ m. m == u.1) (numbers ts)) ≡ true) is (grind (arith, nat_tests))
-    by_test more false k = let there = more k in grind (arith, nat_tests)
+first_distinct : (cs : List Column) → all_different (map (λ c. c.name) cs) ≡ true → Distinct (map carried cs)
+first_distinct [] h = tt
+first_distinct (c ∷ cs) h =
+    let parts = not_both (list_any (bytes_eq c.name) (map (λ d. d.name) cs)) (all_different (map (λ d. d.name) cs)) h in
+    (first_apart c cs parts.0, first_distinct cs parts.1)
 
-pub found_only : (q : Table → Bool) (ts : List Table) (table : Table) → numbers_differ (numbers ts) ≡ true → find q ts ≡ Some table → Only table ts
-found_only q [] table d h = tt
-found_only q (t ∷ ts) table d h = by_test (found_only q ts table) (q t) h
-  where
-    parts : (list_any (λ m. m == t.1) (numbers ts) ≡ false) × (numbers_differ (numbers ts) ≡ true)
-    parts = not_true (list_any (λ m. m == t.1) (numbers ts)) (numbers_differ (numbers ts)) d
-
-    by_test : (numbers_differ (numbers ts) ≡ true → find q ts ≡ Some table → Only table ts) → (b : Bool) → (if b then Some t else find q ts) ≡ Some table → Only table (t ∷ ts)
-    by_test more true k = let is : t ≡ table = cc in ((λ same. is), no_other table t.1 ts (ap (λ u. u.1) is) parts.0)
-    by_test more false k =
-        ((λ same. let is : t.1 ≡ table.1 = grind (arith, nat_tests) in absurd (false≢true (sym parts.0 ∙ subst (λ n. list_any (λ m. m == n) (numbers ts) ≡ true) (sym is) (found_number q ts table k)))), more parts.1 k)
-
--- each table is found by its number
-abbrev pub Found : List Table → List Table → Type 0
-Found all = AllOf (λ t. find (λ u. u.1 == t.1) all ≡ Some t)
-
-found_behind : (o : Table) (all ts : List Table) → list_any (λ m. m == o.1) (numbers ts) ≡ false → Found all ts → Found (o ∷ all) ts
-found_behind o all [] h f = tt
-found_behind o all (t ∷ ts) h f = by_test (λ k. found_behind o all ts k f.1) (t.1 == o.1) refl h
-  where
-    by_test : (list_any (λ m. m == o.1) (numbers ts) ≡ false → AllOf (λ t. find (λ u. u.1 == t.1) (o ∷ all) ≡ Some t) ts) → (b : Bool) → (t.1 == o.1) ≡ b → (b || list_any (λ m. m == o.1) (numbers ts)) ≡ false → Found (o ∷ all) (t ∷ ts)
-    by_test more true g k = cc
-    by_test more false g k =
-        let apart : (o.1 == t.1) ≡ false = grind (arith, nat_tests) in
-        (rw apart f.0, more k)
-
-pub all_found : (ts : List Table) → numbers_differ (numbers ts) ≡ true → Found ts ts
-all_found [] d = tt
-all_found (t ∷ ts) d =
-    let parts = not_true (list_any (λ m. m == t.1) (numbers ts)) (numbers_differ (numbers ts)) d in
-    let itself : (t.1 == t.1) ≡ true = grind (arith, nat_tests) in
-    (rw itself, found_behind t ts ts parts.0 (all_found ts parts.1))
-
--- ---- the tables of the old version, of the new version so far, and their fates, side by side
-
-pub record Row (old new : Schema) (o t : Table) (f : ℕ × Fate) : Type 0 where
-  name : t.0 ≡ o.0
-  number : t.1 ≡ o.1
-  fate_number : f.0 ≡ o.1
-  lens : Lens
-  is_kept : f.1 ≡ Kept lens
-  hangs : Hangs o.2 t.2 lens
-  in_old : shape_numbered old o.1 ≡ Some o.2
-  wider : (over : Shape) → shape_numbered new o.1 ≡ Some over → Wider o.2 t.2 over
-
-abbrev pub Rows : Schema → Schema → List Table → List Table → List (ℕ × Fate) → Type 0
-Rows old new [] [] [] = Unit {0}
-Rows old new (o ∷ os) (t ∷ ts) (f ∷ fs) = Row old new o t f × Rows old new os ts fs
-Rows old new _ _ _ = ⊥
-
--- What each row's two tables have in common, all of them have.
-in_common : {X : Type 0} (of : Table → X) (old new : Schema) (os ts : List Table) (fs : List (ℕ × Fate)) → ((o t : Table) (f : ℕ × Fate) → Row old new o t f → of t ≡ of o) → Rows old new os ts fs → map of ts ≡ map of os
-in_common of old new [] [] [] same r = refl
-in_common of old new [] [] (f ∷ fs) same r = absurd r
-in_common of old new [] (t ∷ ts) fs same r = absurd r
-in_common of old new (o ∷ os) [] fs same r = absurd r
-in_common of old new (o ∷ os) (t ∷ ts) [] same r = absurd r
-in_common of old new (o ∷ os) (t ∷ ts) (f ∷ fs) same r =
-    let here = same o t f r.0 in
-    let there = in_common of old new os ts fs same r.1 in
+all_stand : (side : DraftColumn → Option Column) → ((c : Column) → side (carried c) ≡ Some c) → (cs : List Column) → filter_map side (map carried cs) ≡ cs
+all_stand side same [] = refl
+all_stand side same (c ∷ cs) =
+    let here = same c in
+    let more = all_stand side same cs in
     cc
 
-pub same_numbers : (old new : Schema) (os ts : List Table) (fs : List (ℕ × Fate)) → Rows old new os ts fs → numbers ts ≡ numbers os
-same_numbers old new os ts fs r = in_common (λ t. t.1) old new os ts fs (λ o t f row. row.number) r
+get_first : (cs : List Column) (k : ℕ) → slice_get (map carried cs) k ≡ option_map carried (slice_get cs k)
+get_first [] k = refl
+get_first (c ∷ cs) zero = refl
+get_first (c ∷ cs) (suc k) = get_first cs k
 
--- ---- one column more
+place_first : (cs : List Column) (k : ℕ) → nat_lt k (length cs) ≡ true → place old_side (map carried cs) k ≡ k
+place_first [] k h = grind (arith, nat_tests)
+place_first (c ∷ cs) zero h = refl
+place_first (c ∷ cs) (suc k) h = ap suc (place_first cs k (grind (arith, nat_tests)))
 
--- what is known of a new column of a table
-record Fresh (old new : Schema) (table : Table) (column : ColumnDef) (up : Option Expr) : Type 0 where
-  default_fits : has_type (Some column.ty) column.default ≡ true
-  up_types : (at : ℕ) → bad_up at column (shape_numbered old table.1) up ≡ None
-  room : nat_le max_columns (length table.2.columns) ≡ false
-  free : has_column column.name table ≡ false
-  checks_type : (over : Shape) → shape_numbered new table.1 ≡ Some over → list_all (λ check. is_condition (type_of over check.expr)) (checks_of column.check) ≡ true
+stands_first : (cs : List Column) (k : ℕ) → nat_lt k (length cs) ≡ true → Stands (map carried cs) k
+stands_first [] k h = grind (arith, nat_tests)
+stands_first (c ∷ cs) zero h = refl
+stands_first (c ∷ cs) (suc k) h = stands_first cs k (grind (arith, nat_tests))
 
-fresh_cell : (column : ColumnDef) (up : Option Expr) → is_fresh (cell_of column up) ≡ true
-fresh_cell column None = refl
-fresh_cell column (Some e) = refl
+places_first : (cs : List Column) (ks : List ℕ) → list_all (λ at. nat_lt at (length cs)) ks ≡ true → Each (Stands (map carried cs)) ks
+places_first cs [] h = tt
+places_first cs (k ∷ ks) h =
+    let parts = both (nat_lt k (length cs)) (list_all (λ at. nat_lt at (length cs)) ks) h in
+    (stands_first cs k parts.0, places_first cs ks parts.1)
 
-fresh_fits : (before : Shape) (column : ColumnDef) (up : Option Expr) → has_type (Some column.ty) column.default ≡ true → cell_fits before.columns (column_of column) (cell_of column up) ≡ true
-fresh_fits before column None h = h
-fresh_fits before column (Some e) h = refl
+uniques_first : (cs : List Column) (us : List Unique) → list_all (has_places (length cs)) us ≡ true → Each (λ u. Each (Stands (map carried cs)) u.columns) us
+uniques_first cs [] h = tt
+uniques_first cs (u ∷ us) h =
+    let parts = both (has_places (length cs) u) (list_all (has_places (length cs)) us) h in
+    (places_first cs u.columns parts.0, uniques_first cs us parts.1)
 
-fresh_types : (at : ℕ) (before : Shape) (column : ColumnDef) (up : Option Expr) → bad_up at column (Some before) up ≡ None → cell_types before (column_of column) (cell_of column up) ≡ true
-fresh_types at before column None h = refl
-fresh_types at before column (Some e) h = by_test (record { operation = at; member = member.Up }) (types_as column.ty (type_of before e)) h
-  where
-    by_test : (p : Place) (b : Bool) → (if b then None else Some p) ≡ None → b ≡ true
-    by_test p true k = refl
-    by_test p false k = cc
+key_there : (o : Option Column) → is_key o ≡ true → (c : Column) × (o ≡ Some c) × (is_key (Some c) ≡ true)
+key_there None h = cc
+key_there (Some c) h = (c, refl, h)
 
-put_at_its_own : (old new : Schema) (table o : Table) (f : ℕ × Fate) (column : ColumnDef) (up : Option Expr) → Fresh old new table column up → Row old new o table f → Row old new o (table_with column table) (f.0, fate_with (cell_of column up) f.1)
-put_at_its_own old new table o f column up fresh row =
-    let in_old : shape_numbered old table.1 ≡ Some o.2 = ap (shape_numbered old) row.number ∙ row.in_old in
-    let up_types : bad_up 0 column (Some o.2) up ≡ None = ap (λ s. bad_up 0 column s up) (sym in_old) ∙ fresh.up_types 0 in
+first_sound : (old : Schema) (t : Table) → shape_numbered old t.1 ≡ Some t.2 → WellFormed t.2 → TableSound old (kept t)
+first_sound old t in_old w =
+    let cs = t.2.columns in
+    let key = key_there (slice_get cs t.2.key) w.key in
+    let at = get_first cs t.2.key ∙ ap (option_map carried) key.1 in
+    let within = there cs t.2.key key.0 key.1 in
     record {
-      name = row.name;
-      number = row.number;
-      fate_number = row.fate_number;
-      lens = record row.lens { new_cols = row.lens.new_cols ++ cell_of column up ∷ [] };
-      is_kept = ap (fate_with (cell_of column up)) row.is_kept;
-      hangs = grown_lens o.2 table.2 row.lens (shape_with table.0 column table.2) (column_of column) (cell_of column up) refl refl (fresh_cell column up) (fresh_fits o.2 column up fresh.default_fits) (fresh_types 0 o.2 column up up_types) row.hangs;
-      in_old = row.in_old;
-      wider = λ over h. grown_shape o.2 table.2 over table.0 column fresh.room fresh.free fresh.default_fits (fresh.checks_type over (ap (shape_numbered new) row.number ∙ h)) (row.wider over h);
+      columns = first_columns cs w.defaults;
+      distinct = first_distinct cs w.different;
+      few = subst (λ ns. length ns ≤ max_columns) (sym (all_stand new_side (λ c. refl) cs)) w.few;
+      key = record { at = carried key.0; is_at = at; now = key.0; is_now = refl; is_key = key.2; up = refl; down = refl };
+      uniques = uniques_first cs t.2.uniques w.uniques;
+      stood = λ h. record {
+        shape = t.2;
+        in_old = in_old;
+        columns = all_stand old_side (λ c. refl) cs;
+        place = place_first cs t.2.key within;
+        before = λ c g.
+            let is : carried key.0 ≡ c = let e = sym at ∙ g in cc in
+            ap (λ d. is_some d.before) (sym is);
+      };
     }
 
-put_in_row : (old new : Schema) (table o t : Table) (f : ℕ × Fate) (column : ColumnDef) (up : Option Expr) → Fresh old new table column up → ((t.1 == table.1) ≡ true → t ≡ table) → Row old new o t f → Row old new o (in_place (table_with column table) t) (with_cell table.1 (cell_of column up) f)
-put_in_row old new table o t f column up fresh only row = rw same_test (by_test (t.1 == table.1) refl)
+-- each table is found by its number
+differ_behind : (t : Table) (all ts : List Table) → list_any (λ m. m == t.1) (map (λ u. u.1) ts) ≡ false → Each (λ u. find (λ v. v.1 == u.1) all ≡ Some u) ts → Each (λ u. find (λ v. v.1 == u.1) (t ∷ all) ≡ Some u) ts
+differ_behind t all [] h f = tt
+differ_behind t all (u ∷ ts) h f = by_test (λ k. differ_behind t all ts k f.1) (u.1 == t.1) refl h
   where
-    same_test : (f.0 == table.1) ≡ (t.1 == table.1)
-    same_test = ap (λ n. n == table.1) (row.fate_number ∙ sym row.number)
+    by_test : (list_any (λ m. m == t.1) (map (λ u. u.1) ts) ≡ false → Each (λ u. find (λ v. v.1 == u.1) (t ∷ all) ≡ Some u) ts) → (b : Bool) → (u.1 == t.1) ≡ b → (b || list_any (λ m. m == t.1) (map (λ u. u.1) ts)) ≡ false → Each (λ u. find (λ v. v.1 == u.1) (t ∷ all) ≡ Some u) (u ∷ ts)
+    by_test more true g k = cc
+    by_test more false g k =
+        let apart : (t.1 == u.1) ≡ false = grind (arith, nat_tests) in
+        (rw apart f.0, more k)
 
-    by_test : (b : Bool) → (t.1 == table.1) ≡ b → Row old new o (if b then table_with column table else t) (if b then (f.0, fate_with (cell_of column up) f.1) else f)
-    by_test true h = put_at_its_own old new table o f column up fresh (subst (λ u. Row old new o u f) (only h) row)
-    by_test false h = row
+all_found : (ts : List Table) → numbers_differ (map (λ t. t.1) ts) ≡ true → Each (λ u. find (λ v. v.1 == u.1) ts ≡ Some u) ts
+all_found [] h = tt
+all_found (t ∷ ts) h =
+    let parts = not_both (list_any (λ m. m == t.1) (map (λ u. u.1) ts)) (numbers_differ (map (λ u. u.1) ts)) h in
+    let itself : (t.1 == t.1) ≡ true = grind (arith, nat_tests) in
+    (rw itself, differ_behind t ts ts parts.0 (all_found ts parts.1))
 
-put_in_rows : (old new : Schema) (table : Table) (os ts : List Table) (fs : List (ℕ × Fate)) (column : ColumnDef) (up : Option Expr) → Fresh old new table column up → Only table ts → Rows old new os ts fs → Rows old new os (map (in_place (table_with column table)) ts) (map (with_cell table.1 (cell_of column up)) fs)
-put_in_rows old new table [] [] [] column up fresh only r = tt
-put_in_rows old new table [] [] (f ∷ fs) column up fresh only r = absurd r
-put_in_rows old new table [] (t ∷ ts) fs column up fresh only r = absurd r
-put_in_rows old new table (o ∷ os) [] fs column up fresh only r = absurd r
-put_in_rows old new table (o ∷ os) (t ∷ ts) [] column up fresh only r = absurd r
-put_in_rows old new table (o ∷ os) (t ∷ ts) (f ∷ fs) column up fresh only r =
-    (put_in_row old new table o t f column up fresh only.0 r.0, put_in_rows old new table os ts fs column up fresh only.1 r.1)
-
--- ---- operations
-
--- where there is no fault in a list, none of its parts is one
-first_none : (f : Option PlanFault) (fs : List (Option PlanFault)) → first (f ∷ fs) ≡ None → (f ≡ None) × (first fs ≡ None)
-first_none None fs h = (refl, h)
-first_none (Some f) fs h = cc
-
-all_none : (fs : List (Option PlanFault)) → first fs ≡ None → (k : ℕ) → slice_index_or fs k None ≡ None
-all_none [] h k = refl
-all_none (f ∷ fs) h zero = (first_none f fs h).0
-all_none (f ∷ fs) h (suc k) = all_none fs (first_none f fs h).1 k
-
-when_none : (b : Bool) (f : PlanFault) → when b f ≡ None → b ≡ false
-when_none true f h = cc
-when_none false f h = refl
-
-not_false : (b : Bool) → not b ≡ false → b ≡ true
-not_false true h = refl
-not_false false h = cc
-
-default_fits : (old : Schema) (at : ℕ) (table : Table) (column : ColumnDef) (up : Option Expr) → column_fault old at table column up ≡ None → has_type (Some column.ty) column.default ≡ true
-default_fits old at table column up h =
-    not_false (has_type (Some column.ty) column.default) (when_none (not (has_type (Some column.ty) column.default)) (BadType (record { operation = at; member = member.Default })) (all_none (column_faults old at table column up) h 5))
-
-no_room : (old : Schema) (at : ℕ) (table : Table) (column : ColumnDef) (up : Option Expr) → column_fault old at table column up ≡ None → nat_le max_columns (length table.2.columns) ≡ false
-no_room old at table column up h = when_none (nat_le max_columns (length table.2.columns)) (Limit (codes "columns")) (all_none (column_faults old at table column up) h 6)
-
-or_right : (a b : Bool) → (a || b) ≡ false → b ≡ false
-or_right true b h = cc
-or_right false b h = h
-
-free_name : (old : Schema) (at : ℕ) (table : Table) (column : ColumnDef) (up : Option Expr) → column_fault old at table column up ≡ None → has_column column.name table ≡ false
-free_name old at table column up h =
-    or_right (option_map_or (has_column column.name) (table_numbered old table.1) false) (has_column column.name table) (when_none (is_taken (has_column column.name) old table) (Exists column.name) (all_none (column_faults old at table column up) h 0))
-
-checks_type : (over : Shape) (number at : ℕ) (later : List Step) (check : Option Check) → bad_check (Some over) number at later check ≡ None → list_all (λ check. is_condition (type_of over check.expr)) (checks_of check) ≡ true
-checks_type over number at later None h = refl
-checks_type over number at later (Some check) h = by_test (record { operation = check_place check.expr number at (at + 1) later; member = member.Check }) (is_condition (type_of over check.expr)) h
+first_is : (t : Table) (d : DraftTable) → first_table t ≡ Ok d → kept t ≡ d
+first_is t d h = by_test (nat_le (length t.2.columns) max_columns) h
   where
-    by_test : (p : Place) (b : Bool) → (if b then None else Some p) ≡ None → (b && true) ≡ true
-    by_test p true k = refl
-    by_test p false k = cc
+    by_test : (b : Bool) → (if b then Ok (kept t) else Err (Limit (codes "columns"))) ≡ Ok d → kept t ≡ d
+    by_test true k = cc
+    by_test false k = cc
+
+pub firsts_are : (ts : List Table) (ds : List DraftTable) → every (map first_table ts) ≡ Ok ds → map kept ts ≡ ds
+firsts_are [] ds h = cc
+firsts_are (t ∷ ts) ds h =
+    let a = and_then_ok (first_table t) _ ds h in
+    let b = and_then_ok (every (map first_table ts)) _ ds a.2 in
+    let here = first_is t a.0 a.1 in
+    let more = firsts_are ts b.0 b.1 in
+    cc
+
+firsts_sound : (old : Schema) (ts : List Table) → IsSchema old → Each (λ u. find (λ v. v.1 == u.1) old.tables ≡ Some u) ts → Each (TableSound old) (map kept ts)
+firsts_sound old [] is f = tt
+firsts_sound old (t ∷ ts) is f =
+    let in_old : shape_numbered old t.1 ≡ Some t.2 = ap (option_map (λ u. u.2)) f.0 in
+    (first_sound old t in_old (is.shapes t.1 t.2 in_old), firsts_sound old ts is f.1)
+
+first_rest : (t : Table) (ts : List Table) → list_any (bytes_eq t.0) (map (λ u. u.0) ts) ≡ false → list_any (λ m. m == t.1) (map (λ u. u.1) ts) ≡ false → Each (Apart (kept t)) (map kept ts)
+first_rest t [] h k = tt
+first_rest t (u ∷ ts) h k = by_tests (first_rest t ts) (bytes_eq t.0 u.0) (u.1 == t.1) refl refl h k
+  where
+    by_tests : (list_any (bytes_eq t.0) (map (λ u. u.0) ts) ≡ false → list_any (λ m. m == t.1) (map (λ u. u.1) ts) ≡ false → Each (Apart (kept t)) (map kept ts)) → (b c : Bool) → bytes_eq t.0 u.0 ≡ b → (u.1 == t.1) ≡ c → (b || list_any (bytes_eq t.0) (map (λ u. u.0) ts)) ≡ false → (c || list_any (λ m. m == t.1) (map (λ u. u.1) ts)) ≡ false → Each (Apart (kept t)) (map kept (u ∷ ts))
+    by_tests more true c f g h k = cc
+    by_tests more false true f g h k = cc
+    by_tests more false false f g h k =
+        let other : (t.1 == u.1) ≡ false = grind (arith, nat_tests) in
+        ((f, other), more h k)
+
+firsts_apart : (ts : List Table) → all_different (map (λ t. t.0) ts) ≡ true → numbers_differ (map (λ t. t.1) ts) ≡ true → Pairwise Apart (map kept ts)
+firsts_apart [] h k = tt
+firsts_apart (t ∷ ts) h k =
+    let names = not_both (list_any (bytes_eq t.0) (map (λ u. u.0) ts)) (all_different (map (λ u. u.0) ts)) h in
+    let numbers = not_both (list_any (λ m. m == t.1) (map (λ u. u.1) ts)) (numbers_differ (map (λ u. u.1) ts)) k in
+    (first_rest t ts names.0 numbers.0, firsts_apart ts names.1 numbers.1)
+
+firsts_below : (next : ℕ) (ts : List Table) → AllBelow next ts → Each (λ t. nat_lt t.number next ≡ true) (map kept ts)
+firsts_below next [] h = tt
+firsts_below next (t ∷ ts) h =
+    let low = h.0 in
+    let here : nat_lt t.1 next ≡ true = grind (arith, nat_tests) in
+    (here, firsts_below next ts h.1)
+
+pub begun_is : (old : Schema) (next : ℕ) (d : Draft) → begun old next ≡ Ok d → record { tables = map kept old.tables; next_table = next } ≡ d
+begun_is old next d h =
+    let a = and_then_ok (every (map first_table old.tables)) _ d h in
+    let tables = firsts_are old.tables a.0 a.1 in
+    cc
+
+all_old : (old : Schema) (ts : List Table) → Each (NewOne old) (map kept ts)
+all_old old [] = tt
+all_old old (t ∷ ts) = ((λ no. cc), all_old old ts)
+
+old_there : (ts more : List Table) → Each {X = Table} (λ o. list_any (λ n. n == o.1) (map (λ t. t.number) (map kept ts)) ≡ true) more → (t : Table) → Each {X = Table} (λ o. list_any (λ n. n == o.1) (map (λ t. t.number) (map kept (t ∷ ts))) ≡ true) more
+old_there ts [] h t = tt
+old_there ts (o ∷ more) h t = (by_test (t.1 == o.1), old_there ts more h.1 t)
+  where
+    by_test : (b : Bool) → (b || list_any (λ n. n == o.1) (map (λ t. t.number) (map kept ts))) ≡ true
+    by_test true = refl
+    by_test false = h.0
+
+olds_there : (ts : List Table) → Each {X = Table} (λ o. list_any (λ n. n == o.1) (map (λ t. t.number) (map kept ts)) ≡ true) ts
+olds_there [] = tt
+olds_there (t ∷ ts) =
+    let itself : (t.1 == t.1) ≡ true = grind (arith, nat_tests) in
+    (rw itself, old_there ts ts (olds_there ts) t)
+
+pub begun_sound : (old : Schema) (next : ℕ) (d : Draft) → IsSchema old → IsBelow next old → begun old next ≡ Ok d → DraftSound old d
+begun_sound old next d is below h =
+    subst (DraftSound old) (begun_is old next d h)
+    (record {
+      tables = firsts_sound old old.tables is (all_found old.tables is.numbers);
+      apart = firsts_apart old.tables is.names is.numbers;
+      below = firsts_below next old.tables below;
+      old_below = below;
+      new_ones = all_old old old.tables;
+      has_olds = olds_there old.tables;
+    })
+
+-- ---- what a plan comes from
+
+pub record Comes (old : Schema) (plan : Plan) : Type 0 where
+  pub draft : Draft
+  pub sound : DraftSound old draft
+  pub typed : first_bad old draft.tables ≡ None
+  pub is : finished draft ≡ plan
+
+bad_none : (o : Option Place) → option_map BadExpr o ≡ None → o ≡ None
+bad_none None h = refl
+bad_none (Some p) h = cc
+
+pub comes : (old : Schema) (next_table : ℕ) (m : Migration) (plan : Plan) → IsSchema old → IsBelow next_table old → plan_of old next_table m ≡ Ok plan → Comes old plan
+comes old next_table m plan is below h =
+    let a = and_then_ok (begun old next_table) _ plan h in
+    let b = and_then_ok (all_done old 0 m.operations a.0) (typed old) plan a.2 in
+    let c = without_fault_ok (option_map BadExpr (first_bad old b.0.tables)) (finished b.0) plan b.2 in
+    record { draft = b.0; sound = all_done_soundly old 0 m.operations a.0 b.0 (begun_sound old next_table a.0 is below a.1) b.1; typed = bad_none (first_bad old b.0.tables) c.0; is = c.1 }
+
+-- ---- typing
 
 earlier_none : (p q : Option Place) → earlier p q ≡ None → (p ≡ None) × (q ≡ None)
 earlier_none None q h = (refl, h)
@@ -243,267 +255,297 @@ earlier_none (Some p) (Some q) h = by_test (is_first p q) h
     by_test true k = cc
     by_test false k = cc
 
-bad_up_anywhere : (at other : ℕ) (column : ColumnDef) (shape : Option Shape) (up : Option Expr) → bad_up at column shape up ≡ None → bad_up other column shape up ≡ None
-bad_up_anywhere at other column None up h = refl
-bad_up_anywhere at other column (Some shape) None h = refl
-bad_up_anywhere at other column (Some shape) (Some up) h = by_test (record { operation = at; member = member.Up }) (record { operation = other; member = member.Up }) (types_as column.ty (type_of shape up)) h
+least_none : {X : Type 0} (f : X → Option Place) (xs : List X) → least (map f xs) ≡ None → Each (λ x. f x ≡ None) xs
+least_none f [] h = tt
+least_none f (x ∷ xs) h =
+    let parts = earlier_none (f x) (least (map f xs)) h in
+    (parts.0, least_none f xs parts.1)
+
+well_typed : (over : Shape) (wanted : Ty) (e : Expr) (p : Place) → bad over wanted e p ≡ None → types_as wanted (type_of over e) ≡ true
+well_typed over wanted e p h = by_test (types_as wanted (type_of over e)) h
   where
-    by_test : (p q : Place) (b : Bool) → (if b then None else Some p) ≡ None → (if b then None else Some q) ≡ None
-    by_test p q true k = refl
-    by_test p q false k = cc
-
--- One operation names a table; where its expressions type, the rows after it hang together if those before do.
-record Done (old : Schema) (at : ℕ) (op : Op) (draft next : Draft) : Type 0 where
-  number : ℕ
-  meant : next.meant ≡ draft.meant ++ number ∷ []
-  rows : (new : Schema) (later : List Step) → bad_in old new at later (op, number) ≡ None → numbers_differ (numbers old.tables) ≡ true → Rows old new old.tables draft.plan.schema.tables draft.plan.fates → Rows old new old.tables next.plan.schema.tables next.plan.fates
-
-ok_or_ok : {T E : Type 0} (o : Option T) (e : E) (x : T) → ok_or o e ≡ Ok x → o ≡ Some x
-ok_or_ok None e x h = cc
-ok_or_ok (Some y) e x h = let is : y ≡ x = cc in ap Some is
-
-without_fault_ok : {T : Type 0} (fault : Option PlanFault) (value x : T) → without_fault fault value ≡ Ok x → (fault ≡ None) × (value ≡ x)
-without_fault_ok None value x h = (refl, cc)
-without_fault_ok (Some f) value x h = cc
-
-column_done : (old : Schema) (at : ℕ) (name : List ℕ) (column : ColumnDef) (up : Option Expr) (draft next : Draft) → column_added old at name column up draft ≡ Ok next → Done old at (op.AddColumn name column up) draft next
-column_done old at name column up draft next h =
-    let a = and_then_ok (ok_or (table_meant draft.plan name) (NoSuchTable name)) (λ table. without_fault (column_fault old at table column up) (record draft { plan = plan_with draft.plan table column up; meant = draft.meant ++ table.1 ∷ [] })) next h in
-    let table : Table = a.0 in
-    let found = ok_or_ok (table_meant draft.plan name) (NoSuchTable name) table a.1 in
-    let b = without_fault_ok (column_fault old at table column up) (record draft { plan = plan_with draft.plan table column up; meant = draft.meant ++ table.1 ∷ [] }) next a.2 in
-    record {
-      number = table.1;
-      meant = sym (ap (λ d. d.meant) b.1);
-      rows = λ new later types differ rows.
-          let typed = earlier_none (bad_up at column (shape_numbered old table.1) up) (bad_check (shape_numbered new table.1) table.1 at later column.check) types in
-          let fresh : Fresh old new table column up = record {
-            default_fits = default_fits old at table column up b.0;
-            up_types = λ other. bad_up_anywhere at other column (shape_numbered old table.1) up typed.0;
-            room = no_room old at table column up b.0;
-            free = free_name old at table column up b.0;
-            checks_type = λ over h. checks_type over table.1 at later column.check (ap (λ s. bad_check s table.1 at later column.check) (sym h) ∙ typed.1);
-          } in
-          let differ_now : numbers_differ (numbers draft.plan.schema.tables) ≡ true = ap numbers_differ (same_numbers old new old.tables draft.plan.schema.tables draft.plan.fates rows) ∙ differ in
-          let only = found_only _ draft.plan.schema.tables table differ_now found in
-          subst (λ d. Rows old new old.tables d.plan.schema.tables d.plan.fates) b.1 (put_in_rows old new table old.tables draft.plan.schema.tables draft.plan.fates column up fresh only rows);
-    }
-
-op_done : (old : Schema) (at : ℕ) (o : Op) (draft next : Draft) → done old at o draft ≡ Ok next → Done old at o draft next
-op_done old at (op.CreateTable name columns) draft next h = cc
-op_done old at (op.DropTable name) draft next h = cc
-op_done old at (op.RenameTable from to) draft next h = cc
-op_done old at (op.AddColumn name column up) draft next h = column_done old at name column up draft next h
-op_done old at (op.DropColumn table column down) draft next h = cc
-op_done old at (op.RenameColumn table from to) draft next h = cc
-op_done old at (op.AlterColumn table column ty nullable default unique check up down) draft next h = cc
-op_done old at (op.CreateConstraint table name columns check up down) draft next h = cc
-op_done old at (op.DropConstraint table name up down) draft next h = cc
-
-record AllDone (old : Schema) (at : ℕ) (ops : List Op) (draft final : Draft) : Type 0 where
-  meant_by : List ℕ
-  meant : final.meant ≡ draft.meant ++ meant_by
-  rows : (new : Schema) → first_bad old new at (zip ops meant_by) ≡ None → numbers_differ (numbers old.tables) ≡ true → Rows old new old.tables draft.plan.schema.tables draft.plan.fates → Rows old new old.tables final.plan.schema.tables final.plan.fates
-
-ops_done : (old : Schema) (ops : List Op) (at : ℕ) (draft final : Draft) → all_done old at ops draft ≡ Ok final → AllDone old at ops draft final
-ops_done old [] at draft final h =
-    let is : draft ≡ final = cc in
-    record {
-      meant_by = [];
-      meant = sym (ap (λ d. d.meant) is) ∙ sym (append-nil draft.meant);
-      rows = λ new types differ rows. subst (λ d. Rows old new old.tables d.plan.schema.tables d.plan.fates) is rows;
-    }
-ops_done old (o ∷ ops) at draft final h =
-    let a = and_then_ok (done old at o draft) (all_done old (at + 1) ops) final h in
-    let here = op_done old at o draft a.0 a.1 in
-    let there = ops_done old ops (at + 1) a.0 final a.2 in
-    record {
-      meant_by = here.number ∷ there.meant_by;
-      meant = there.meant ∙ ap (λ ns. ns ++ there.meant_by) here.meant ∙ append_assoc draft.meant (here.number ∷ []) there.meant_by;
-      rows = λ new types differ rows.
-          let parts = earlier_none (bad_in old new at (zip ops there.meant_by) (o, here.number)) (first_bad old new (at + 1) (zip ops there.meant_by)) types in
-          there.rows new parts.1 differ (here.rows new (zip ops there.meant_by) parts.0 differ rows);
-    }
-
--- ---- the whole plan
-
-kept_is : (table : Table) (f : ℕ × Fate) → kept table ≡ Ok f → f ≡ (table.1, Kept (record { new_cols = carried table.2.columns; old_cols = carried table.2.columns }))
-kept_is table f h = by_test (nat_le (length table.2.columns) max_columns) h
-  where
-    by_test : (b : Bool) → (if b then Ok (table.1, Kept (record { new_cols = carried table.2.columns; old_cols = carried table.2.columns })) else Err (Limit (codes "columns"))) ≡ Ok f → f ≡ (table.1, Kept (record { new_cols = carried table.2.columns; old_cols = carried table.2.columns }))
-    by_test true k = cc
+    by_test : (b : Bool) → (if b then None else Some p) ≡ None → b ≡ true
+    by_test true k = refl
     by_test false k = cc
 
-first_rows : (old new : Schema) (ts : List Table) (fates : List (ℕ × Fate)) → IsSchema old → AllOf (λ t. find (λ u. u.1 == t.1) old.tables ≡ Some t) ts → every (map kept ts) ≡ Ok fates → Rows old new ts ts fates
-first_rows old new [] fates is found h = let none : [] ≡ fates = cc in subst (λ fs. Rows old new [] [] fs) none tt
-first_rows old new (t ∷ ts) fates is found h =
-    let a = and_then_ok (kept t) (λ x. and_then (every (map kept ts)) (λ xs. Ok (x ∷ xs))) fates h in
-    let b = and_then_ok (every (map kept ts)) (λ xs. Ok (a.0 ∷ xs)) fates a.2 in
-    let fate = kept_is t a.0 a.1 in
-    let in_old : shape_numbered old t.1 ≡ Some t.2 = ap (option_map (λ u. u.2)) found.0 in
-    let here : Row old new t t a.0 = record {
-      name = refl;
-      number = refl;
-      fate_number = ap (λ f. f.0) fate;
-      lens = record { new_cols = carried t.2.columns; old_cols = carried t.2.columns };
-      is_kept = ap (λ f. f.1) fate;
-      hangs = first_lens t.2 (is.shapes t.1 t.2 in_old).key;
-      in_old = in_old;
-      wider = λ over k. first_shape t.2 over (is.shapes t.1 t.2 in_old);
-    } in
-    let whole : a.0 ∷ b.0 ≡ fates = cc in
-    subst (λ fs. Rows old new (t ∷ ts) (t ∷ ts) fs) whole (here, first_rows old new ts b.0 is found.1 b.1)
+way_types : (over : Shape) (which : Member) (at : Option ℕ) (column : Option Column) (e : Option Expr) → is_some e ≡ true → is_some at ≡ true → bad_way (Some over) which at column e ≡ None → TypesOne over column e
+way_types over which at None e h k b = tt
+way_types over which at (Some c) None h k b = tt
+way_types over which None (Some c) (Some e) h k b = cc
+way_types over which (Some n) (Some c) (Some e) h k b = well_typed over c.ty e (record { operation = n; member = which }) b
 
-option_bad_none : (o : Option Place) → option_map BadExpr o ≡ None → o ≡ None
-option_bad_none None h = refl
-option_bad_none (Some p) h = cc
+no_way_types : (over : Shape) (column : Option Column) (e : Option Expr) → is_some e ≡ false → TypesOne over column e
+no_way_types over None e h = tt
+no_way_types over (Some c) None h = tt
+no_way_types over (Some c) (Some e) h = cc
 
-planned_rows : (old : Schema) (next_table : ℕ) (m : Migration) (plan : Plan) → IsSchema old → plan_of old next_table m ≡ Ok plan → Rows old plan.schema old.tables plan.schema.tables plan.fates
-planned_rows old next_table m plan is h =
-    let a = and_then_ok (begun old next_table) _ plan h in
-    let b = and_then_ok (every (map kept old.tables)) _ a.0 a.1 in
-    let c = and_then_ok (all_done old 0 m.operations a.0) _ plan a.2 in
-    let final : Draft = c.0 in
-    let d = without_fault_ok (option_map BadExpr (first_bad old final.plan.schema 0 (zip m.operations final.meant))) final.plan plan c.2 in
-    let first_draft : record { plan = record { schema = old; fates = b.0 }; next_table = next_table; meant = [] } ≡ a.0 = cc in
-    let run = ops_done old m.operations 0 a.0 final c.1 in
-    let meant : final.meant ≡ run.meant_by = run.meant ∙ ap (λ x. x.meant ++ run.meant_by) (sym first_draft) in
-    let types : first_bad old final.plan.schema 0 (zip m.operations run.meant_by) ≡ None = ap (λ ns. first_bad old final.plan.schema 0 (zip m.operations ns)) (sym meant) ∙ option_bad_none _ d.0 in
-    let begin = subst (λ x. Rows old final.plan.schema old.tables x.plan.schema.tables x.plan.fates) first_draft (first_rows old final.plan.schema old.tables b.0 is (all_found old.tables is.numbers) b.1) in
-    subst (λ p. Rows old p.schema old.tables p.schema.tables p.fates) d.1 (run.rows final.plan.schema types is.numbers begin)
+up_marked : (up down : Option Expr) (at : Option ℕ) → Marked up down at → is_some up ≡ true → is_some at ≡ true
+up_marked up down (Some n) m h = refl
+up_marked None None None m h = cc
+up_marked None (Some d) None m h = cc
+up_marked (Some u) down None m h = absurd m
 
-record Joined (os ts : List Table) (number : ℕ) (lens : Lens) : Type 0 where
-  o : Table
-  t : Table
-  in_os : find (λ u. u.1 == number) os ≡ Some o
-  in_ts : find (λ u. u.1 == number) ts ≡ Some t
-  hangs : Hangs o.2 t.2 lens
+down_marked : (up down : Option Expr) (at : Option ℕ) → Marked up down at → is_some down ≡ true → is_some at ≡ true
+down_marked up down (Some n) m h = refl
+down_marked None None None m h = cc
+down_marked None (Some d) None m h = absurd m
+down_marked (Some u) down None m h = absurd m
 
-joined : (old new : Schema) (os ts : List Table) (fs : List (ℕ × Fate)) (number : ℕ) (lens : Lens) → Rows old new os ts fs → option_and_then (λ f. lens_in f.1) (find (λ f. f.0 == number) fs) ≡ Some lens → Joined os ts number lens
-joined old new [] [] [] number lens r h = cc
-joined old new [] [] (f ∷ fs) number lens r h = absurd r
-joined old new [] (t ∷ ts) fs number lens r h = absurd r
-joined old new (o ∷ os) [] fs number lens r h = absurd r
-joined old new (o ∷ os) (t ∷ ts) [] number lens r h = absurd r
-joined old new (o ∷ os) (t ∷ ts) (f ∷ fs) number lens r h =
-    by_test (joined old new os ts fs number lens r.1) (o.1 == number) refl (ap (λ n. n == number) r.0.number) (ap (λ n. n == number) r.0.fate_number) h
+any_types : (over : Shape) (which : Member) (at : Option ℕ) (column : Option Column) (e : Option Expr) → (is_some e ≡ true → is_some at ≡ true) → bad_way (Some over) which at column e ≡ None → TypesOne over column e
+any_types over which at column None m b = no_way_types over column None refl
+any_types over which at column (Some e) m b = way_types over which at column (Some e) refl (m refl) b
+
+record ColumnTyped (old new : Shape) (c : DraftColumn) : Type 0 where
+  up : TypesOne old c.after.column c.after.up
+  down : TypesOne new c.before c.after.down
+
+column_types : (old new : Shape) (c : DraftColumn) → ColumnSound c → bad_column (Some old) (Some new) c ≡ None → ColumnTyped old new c
+column_types old new c s h =
+    let parts = earlier_none (bad_way (Some old) member.Up c.after.subject c.after.column c.after.up) (bad_way (Some new) member.Down c.after.subject c.before c.after.down) h in
+    record {
+      up = any_types old member.Up c.after.subject c.after.column c.after.up (up_marked c.after.up c.after.down c.after.subject s.marked) parts.0;
+      down = any_types new member.Down c.after.subject c.before c.after.down (down_marked c.after.up c.after.down c.after.subject s.marked) parts.1;
+    }
+
+as_condition : (t : Typed) → types_as ty.Boolean t ≡ true → is_condition t ≡ true
+as_condition (Ok None) h = h
+as_condition (Ok (Some u)) h = h
+as_condition (Err f) h = h
+
+checks_type : (over : Shape) (cs : List DraftColumn) (checks : List DraftCheck) → Each (λ check. bad_check (Some over) cs check ≡ None) checks → list_all (λ check. is_condition (type_of over check.expr)) (map (λ check. check.check) checks) ≡ true
+checks_type over cs [] h = refl
+checks_type over cs (check ∷ checks) h =
+    all_true (is_condition (type_of over check.check.expr)) (list_all (λ check. is_condition (type_of over check.expr)) (map (λ check. check.check) checks)) (as_condition (type_of over check.check.expr) (well_typed over ty.Boolean check.check.expr (record { operation = check_place cs check; member = member.Check }) h.0)) (checks_type over cs checks h.1)
+
+-- ---- the shape of a table
+
+standing_one : (o : Option DraftColumn) → is_some (option_and_then new_side o) ≡ true → (c : DraftColumn) × (n : Column) × (o ≡ Some c) × (new_side c ≡ Some n)
+standing_one None h = cc
+standing_one (Some c) h = by_side (new_side c) refl h
   where
-    by_test : (option_and_then (λ f. lens_in f.1) (find (λ f. f.0 == number) fs) ≡ Some lens → Joined os ts number lens) → (b : Bool) → (o.1 == number) ≡ b → (t.1 == number) ≡ (o.1 == number) → (f.0 == number) ≡ (o.1 == number) → option_and_then (λ f. lens_in f.1) (if f.0 == number then Some f else find (λ f. f.0 == number) fs) ≡ Some lens → Joined (o ∷ os) (t ∷ ts) number lens
-    by_test more true is tt_is ff_is k =
-        let here : option_and_then (λ f. lens_in f.1) (Some f) ≡ Some lens = rw (ff_is ∙ is) at k in
-        let same_lens : r.0.lens ≡ lens = cc in
-        record { o = o; t = t; in_os = rw is; in_ts = rw (tt_is ∙ is); hangs = subst (Hangs o.2 t.2) same_lens r.0.hangs }
-    by_test more false is tt_is ff_is k =
-        let rest = more (rw (ff_is ∙ is) at k) in
-        record { o = rest.o; t = rest.t; in_os = rw is rest.in_os; in_ts = rw (tt_is ∙ is) rest.in_ts; hangs = rest.hangs }
+    by_side : (p : Option Column) → new_side c ≡ p → is_some p ≡ true → (d : DraftColumn) × (n : Column) × (Some c ≡ Some d) × (new_side d ≡ Some n)
+    by_side None e k = cc
+    by_side (Some n) e k = (c, n, refl, e)
 
-planned : (old : Schema) (next_table : ℕ) (m : Migration) (plan : Plan) → IsSchema old → plan_of old next_table m ≡ Ok plan → (number : ℕ) (lens : Lens) → lens_of plan number ≡ Some lens → Joined old.tables plan.schema.tables number lens
-planned old next_table m plan is h number lens k = joined old plan.schema old.tables plan.schema.tables plan.fates number lens (planned_rows old next_table m plan is h) k
+place_within : (cs : List DraftColumn) (k : ℕ) → Stands cs k → nat_lt (place new_side cs k) (length (filter_map new_side cs)) ≡ true
+place_within cs k h =
+    let one = standing_one (slice_get cs k) h in
+    there (filter_map new_side cs) (place new_side cs k) one.1 (at_its_place new_side cs k one.0 one.1 one.2 one.3)
+
+places_within : (cs : List DraftColumn) (ks : List ℕ) → Each (Stands cs) ks → list_all (λ at. nat_lt at (length (filter_map new_side cs))) (map (place new_side cs) ks) ≡ true
+places_within cs [] h = refl
+places_within cs (k ∷ ks) h = all_true (nat_lt (place new_side cs k) (length (filter_map new_side cs))) (list_all (λ at. nat_lt at (length (filter_map new_side cs))) (map (place new_side cs) ks)) (place_within cs k h.0) (places_within cs ks h.1)
+
+uniques_within : (cs : List DraftColumn) (us : List Unique) → Each (λ u. Each (Stands cs) u.columns) us → list_all (has_places (length (filter_map new_side cs))) (map (unique_of cs) us) ≡ true
+uniques_within cs [] h = refl
+uniques_within cs (u ∷ us) h = all_true (has_places (length (filter_map new_side cs)) (unique_of cs u)) (list_all (has_places (length (filter_map new_side cs))) (map (unique_of cs) us)) (places_within cs u.columns h.0) (uniques_within cs us h.1)
+
+defaults_fit : (cs : List DraftColumn) → Each ColumnSound cs → list_all (λ c. has_type (Some c.ty) c.default) (filter_map new_side cs) ≡ true
+defaults_fit [] h = refl
+defaults_fit (c ∷ cs) h = by_side (new_side c) h.0.now_fits (defaults_fit cs h.1)
+  where
+    by_side : (o : Option Column) → fits_default o ≡ true → list_all (λ c. has_type (Some c.ty) c.default) (filter_map new_side cs) ≡ true → list_all (λ c. has_type (Some c.ty) c.default) (cons_option o (filter_map new_side cs)) ≡ true
+    by_side None f k = k
+    by_side (Some x) f k = all_true (has_type (Some x.ty) x.default) (list_all (λ c. has_type (Some c.ty) c.default) (filter_map new_side cs)) f k
+
+shape_stands : (old : Schema) (t : DraftTable) → TableSound old t → Each (λ check. bad_check (Some (shape_of t)) t.columns check ≡ None) t.checks → WellFormed (shape_of t)
+shape_stands old t s h =
+    record {
+      few = s.few;
+      different = all_differ t.columns s.distinct;
+      key = ap is_key (at_its_place new_side t.columns t.key s.key.at s.key.now s.key.is_at s.key.is_now) ∙ s.key.is_key;
+      uniques = uniques_within t.columns t.uniques s.uniques;
+      defaults = defaults_fit t.columns s.columns;
+      checks = checks_type (shape_of t) t.columns t.checks h;
+    }
+
+-- ---- the lens of a table
+
+twin_back : (p o : Option Column) (u v : Option Expr) → Twin p o u v → Twin o p u v
+twin_back None None u v t = tt
+twin_back None (Some y) u v t = tt
+twin_back (Some x) None u v t = tt
+twin_back (Some x) (Some y) None None t = sym t
+twin_back (Some x) (Some y) (Some u) (Some v) t = tt
+twin_back (Some x) (Some y) None (Some v) t = absurd t
+twin_back (Some x) (Some y) (Some u) None t = absurd t
+
+new_carried : (p o : Option Column) (u v : Option Expr) → Twin p o u v → Carried o p u
+new_carried p None u v t = tt
+new_carried None (Some y) u v t = tt
+new_carried (Some x) (Some y) None None t = sym t
+new_carried (Some x) (Some y) (Some u) v t = tt
+new_carried (Some x) (Some y) None (Some v) t = absurd t
+
+old_carried : (p o : Option Column) (u v : Option Expr) → Twin p o u v → Carried p o v
+old_carried None o u v t = tt
+old_carried (Some x) None u v t = tt
+old_carried (Some x) (Some y) None None t = t
+old_carried (Some x) (Some y) u (Some v) t = tt
+old_carried (Some x) (Some y) (Some u) None t = absurd t
+
+is_there : (o : Option Column) (n : Column) → o ≡ Some n → is_some o ≡ true
+is_there o n h = ap is_some h
+
+-- The lens joins the old shape, which the table's columns have on the old side, and the new one.
+lens_joins : (old : Schema) (t : DraftTable) (s : TableSound old t) (before : Stood old t.number t.key t.columns) → Each (ColumnTyped before.shape (shape_of t)) t.columns → (fits (lens_of_columns t.columns) before.shape (shape_of t) ≡ true) × IsWellFormed (lens_of_columns t.columns) before.shape (shape_of t)
+lens_joins old t s before ok =
+    let cs = t.columns in
+    let ups : DraftColumn → Option Expr = λ c. c.after.up in
+    let downs : DraftColumn → Option Expr = λ c. c.after.down in
+    let news : new_cells 0 cs ≡ cells new_side old_side ups 0 cs = new_are 0 cs in
+    let olds : old_cells 0 cs ≡ cells old_side new_side downs 0 cs = old_are 0 cs in
+    let new_fit = cells_are_fit new_side old_side ups cs (each_more ColumnSound (FitsOne new_side old_side ups) (λ c h. (h.now_fits, new_carried c.before c.after.column c.after.up c.after.down h.twin)) cs s.columns) in
+    let old_fit = cells_are_fit old_side new_side downs cs (each_more ColumnSound (FitsOne old_side new_side downs) (λ c h. (h.old_fits, old_carried c.before c.after.column c.after.up c.after.down h.twin)) cs s.columns) in
+    let fit_new : cells_fit before.shape.columns (filter_map new_side cs) (new_cells 0 cs) ≡ true = subst (λ xs. cells_fit before.shape.columns (filter_map new_side cs) xs ≡ true) (sym news) (subst (λ ys. cells_fit ys (filter_map new_side cs) (cells new_side old_side ups 0 cs) ≡ true) before.columns new_fit) in
+    let fit_old : cells_fit (filter_map new_side cs) before.shape.columns (old_cells 0 cs) ≡ true = subst (λ xs. cells_fit (filter_map new_side cs) before.shape.columns xs ≡ true) (sym olds) (subst (λ ys. cells_fit (filter_map new_side cs) ys (cells old_side new_side downs 0 cs) ≡ true) before.columns old_fit) in
+    let type_new : cells_type before.shape (filter_map new_side cs) (new_cells 0 cs) ≡ true = subst (λ xs. cells_type before.shape (filter_map new_side cs) xs ≡ true) (sym news) (cells_are_typed before.shape new_side old_side ups cs (each_more (ColumnTyped before.shape (shape_of t)) (λ c. TypesOne before.shape (new_side c) (ups c)) (λ c h. h.up) cs ok) 0) in
+    let type_old : cells_type (shape_of t) before.shape.columns (old_cells 0 cs) ≡ true = subst (λ xs. cells_type (shape_of t) before.shape.columns xs ≡ true) (sym olds) (subst (λ ys. cells_type (shape_of t) ys (cells old_side new_side downs 0 cs) ≡ true) before.columns (cells_are_typed (shape_of t) old_side new_side downs cs (each_more (ColumnTyped before.shape (shape_of t)) (λ c. TypesOne (shape_of t) (old_side c) (downs c)) (λ c h. h.down) cs ok) 0)) in
+    let now_there : is_some (new_side s.key.at) ≡ true = is_there s.key.at.after.column s.key.now s.key.is_now in
+    let was_there : is_some (old_side s.key.at) ≡ true = before.before s.key.at s.key.is_at in
+    let key_new = carries_at new_side old_side ups cs t.key s.key.at s.key.is_at now_there was_there s.key.up in
+    let key_old = carries_at old_side new_side downs cs t.key s.key.at s.key.is_at was_there now_there s.key.down in
+    let ways = both_ways new_side old_side ups downs cs (each_more ColumnSound (λ c. Twin (new_side c) (old_side c) (ups c) (downs c)) (λ c h. twin_back c.before c.after.column c.after.up c.after.down h.twin) cs s.columns) in (
+      all_true (cells_fit before.shape.columns (filter_map new_side cs) (new_cells 0 cs)) (cells_fit (filter_map new_side cs) before.shape.columns (old_cells 0 cs)) fit_new fit_old,
+      record {
+        ups = type_new;
+        downs = type_old;
+        new_key = subst (λ xs. carries xs (place new_side cs t.key) before.shape.key ≡ true) (sym news) (subst (λ k. carries (cells new_side old_side ups 0 cs) (place new_side cs t.key) k ≡ true) before.place key_new);
+        old_key = subst (λ xs. carries xs before.shape.key (place new_side cs t.key) ≡ true) (sym olds) (subst (λ k. carries (cells old_side new_side downs 0 cs) k (place new_side cs t.key) ≡ true) before.place key_old);
+        both_ways = λ i j. ap (λ xs. carries xs i j) news ∙ ways i j ∙ ap (λ xs. carries xs j i) (sym olds);
+      },
+    )
+
+-- ---- tables of a number
+
+record Kept_ (t : DraftTable) : Type 0 where
+  name : List ℕ
+  is_named : t.name ≡ Some name
+  stood : t.stood ≡ true
+
+kept_fate : (stood : Bool) (name : Option (List ℕ)) (cs : List DraftColumn) (lens : Lens) → lens_in (fate stood name cs) ≡ Some lens → (stood ≡ true) × (is_some name ≡ true) × (lens_of_columns cs ≡ lens)
+kept_fate false name cs lens h = cc
+kept_fate true None cs lens h = cc
+kept_fate true (Some n) cs lens h = (refl, refl, cc)
+
+-- the table of a draft that has a number, and stands in the new version
+record At (old : Schema) (ts : List DraftTable) (number : ℕ) (lens : Lens) : Type 0 where
+  t : DraftTable
+  sound : TableSound old t
+  well : bad_table old t ≡ None
+  is_number : t.number ≡ number
+  stood : t.stood ≡ true
+  titled : is_some t.name ≡ true
+  lens_is : lens_of_columns t.columns ≡ lens
+  in_new : option_map (λ u. u.2) (find (λ u. u.1 == number) (filter_map new_table ts)) ≡ Some (shape_of t)
+
+lens_at : (old : Schema) (ts : List DraftTable) (number : ℕ) (lens : Lens) → Each (TableSound old) ts → Each (λ t. bad_table old t ≡ None) ts → option_and_then (λ f. lens_in f.1) (find (λ f. f.0 == number) (map fate_of ts)) ≡ Some lens → At old ts number lens
+lens_at old [] number lens s b h = cc
+lens_at old (t ∷ ts) number lens s b h = by_test (lens_at old ts number lens s.1 b.1) (t.number == number) refl h
+  where
+    here : (name : Option (List ℕ)) → t.name ≡ name → is_some name ≡ true → (t.number == number) ≡ true → option_map (λ u. u.2) (find (λ u. u.1 == number) (cons_option (option_map (λ n. (n, t.number, shape_of t)) name) (filter_map new_table ts))) ≡ Some (shape_of t)
+    here None e k g = cc
+    here (Some n) e k g = rw g
+
+    behind : (name : Option (List ℕ)) (shape : Shape) → (t.number == number) ≡ false → option_map (λ u. u.2) (find (λ u. u.1 == number) (filter_map new_table ts)) ≡ Some shape → option_map (λ u. u.2) (find (λ u. u.1 == number) (cons_option (option_map (λ n. (n, t.number, shape_of t)) name) (filter_map new_table ts))) ≡ Some shape
+    behind None shape g k = k
+    behind (Some n) shape g k = rw g k
+
+    by_test : (option_and_then (λ f. lens_in f.1) (find (λ f. f.0 == number) (map fate_of ts)) ≡ Some lens → At old ts number lens) → (c : Bool) → (t.number == number) ≡ c → option_and_then (λ f. lens_in f.1) (if c then Some (fate_of t) else find (λ f. f.0 == number) (map fate_of ts)) ≡ Some lens → At old (t ∷ ts) number lens
+    by_test more true g k =
+        let f = kept_fate t.stood t.name t.columns lens k in
+        record { t = t; sound = s.0; well = b.0; is_number = grind (arith, nat_tests); stood = f.0; titled = f.1; lens_is = f.2; in_new = here t.name refl f.1 g }
+    by_test more false g k =
+        let r = more k in
+        record { t = r.t; sound = r.sound; well = r.well; is_number = r.is_number; stood = r.stood; titled = r.titled; lens_is = r.lens_is; in_new = behind t.name (shape_of r.t) g r.in_new }
+
+now_is : (t : DraftTable) → is_some t.name ≡ true → shape_now t ≡ Some (shape_of t)
+now_is t h = rw h
+
+columns_typed : (old : Schema) (t : DraftTable) (shape : Shape) → TableSound old t → shape_numbered old t.number ≡ Some shape → is_some t.name ≡ true → bad_table old t ≡ None → Each (ColumnTyped shape (shape_of t)) t.columns
+columns_typed old t shape s in_old titled well =
+    let e : bad_in (Some shape) (Some (shape_of t)) t ≡ None = subst (λ n. bad_in (Some shape) n t ≡ None) (now_is t titled) (subst (λ o. bad_in o (shape_now t) t ≡ None) in_old well) in
+    let parts = earlier_none (least (map (bad_column (Some shape) (Some (shape_of t))) t.columns)) (least (map (bad_check (Some (shape_of t)) t.columns) t.checks)) e in
+    each_both ColumnSound (λ c. bad_column (Some shape) (Some (shape_of t)) c ≡ None) (ColumnTyped shape (shape_of t)) (column_types shape (shape_of t)) t.columns s.columns (least_none (bad_column (Some shape) (Some (shape_of t))) t.columns parts.0)
+
+checks_fine : (old : Schema) (t : DraftTable) → is_some t.name ≡ true → bad_table old t ≡ None → Each (λ check. bad_check (Some (shape_of t)) t.columns check ≡ None) t.checks
+checks_fine old t titled well =
+    let e : bad_in (shape_numbered old t.number) (Some (shape_of t)) t ≡ None = subst (λ n. bad_in (shape_numbered old t.number) n t ≡ None) (now_is t titled) well in
+    let parts = earlier_none (least (map (bad_column (shape_numbered old t.number) (Some (shape_of t))) t.columns)) (least (map (bad_check (Some (shape_of t)) t.columns) t.checks)) e in
+    least_none (bad_check (Some (shape_of t)) t.columns) t.checks parts.1
 
 pub planned_lenses_join : PlannedLensesJoin
-planned_lenses_join old next_table m plan is h number lens k =
-    let j = planned old next_table m plan is h number lens k in
+planned_lenses_join old next_table m plan is below h number lens k =
+    let c = comes old next_table m plan is below h in
+    let found : lens_of (finished c.draft) number ≡ Some lens = subst (λ p. lens_of p number ≡ Some lens) (sym c.is) k in
+    let a = lens_at old c.draft.tables number lens c.sound.tables (least_none (bad_table old) c.draft.tables c.typed) found in
+    let before = a.sound.stood a.stood in
+    let joined = lens_joins old a.t a.sound before (columns_typed old a.t before.shape a.sound before.in_old a.titled a.well) in
     record {
-      before = j.o.2;
-      after = j.t.2;
-      in_old = ap (option_map (λ u. u.2)) j.in_os;
-      in_new = ap (option_map (λ u. u.2)) j.in_ts;
-      fitting = all_true (cells_fit j.o.2.columns j.t.2.columns lens.new_cols) (cells_fit j.t.2.columns j.o.2.columns lens.old_cols) j.hangs.new_fit j.hangs.old_fit;
-      well_formed = j.hangs.well_formed;
+      before = before.shape;
+      after = shape_of a.t;
+      in_old = subst (λ n. shape_numbered old n ≡ Some before.shape) a.is_number before.in_old;
+      in_new = subst (λ p. shape_numbered p.schema number ≡ Some (shape_of a.t)) c.is a.in_new;
+      fitting = subst (λ l. fits l before.shape (shape_of a.t) ≡ true) a.lens_is joined.0;
+      well_formed = subst (λ l. IsWellFormed l before.shape (shape_of a.t)) a.lens_is joined.1;
     }
 
-pub added_columns_lose_nothing : AddedColumnsLoseNothing
-added_columns_lose_nothing old next_table m plan is adds h number lens k = (planned old next_table m plan is h number lens k).hangs.carry
+-- ---- the new version is a schema
 
--- ---- the new version's shapes
-
-record RowOf (old new : Schema) (number : ℕ) (t : Table) : Type 0 where
-  o : Table
-  same_number : o.1 ≡ number
-  in_old : shape_numbered old o.1 ≡ Some o.2
-  wider : (over : Shape) → shape_numbered new o.1 ≡ Some over → Wider o.2 t.2 over
-
-row_of : (old new : Schema) (os ts : List Table) (fs : List (ℕ × Fate)) (number : ℕ) (t : Table) → Rows old new os ts fs → find (λ u. u.1 == number) ts ≡ Some t → RowOf old new number t
-row_of old new [] [] [] number u r h = cc
-row_of old new [] [] (f ∷ fs) number u r h = absurd r
-row_of old new [] (t ∷ ts) fs number u r h = absurd r
-row_of old new (o ∷ os) [] fs number u r h = absurd r
-row_of old new (o ∷ os) (t ∷ ts) [] number u r h = absurd r
-row_of old new (o ∷ os) (t ∷ ts) (f ∷ fs) number u r h = by_test (row_of old new os ts fs number u r.1) (t.1 == number) refl h
+titles_apart : (title : List ℕ) (ts : List DraftTable) → Each (λ t. TitlesDiffer (Some title) t.name) ts → list_any (bytes_eq title) (map (λ u. u.0) (filter_map new_table ts)) ≡ false
+titles_apart title [] h = refl
+titles_apart title (t ∷ ts) h = by_name t.name h.0 (titles_apart title ts h.1)
   where
-    by_test : (find (λ u. u.1 == number) ts ≡ Some u → RowOf old new number u) → (b : Bool) → (t.1 == number) ≡ b → (if b then Some t else find (λ u. u.1 == number) ts) ≡ Some u → RowOf old new number u
-    by_test more true is k =
-        let same_table : t ≡ u = cc in
-        let same_number : t.1 ≡ number = grind (arith, nat_tests) in
-        record { o = o; same_number = sym r.0.number ∙ same_number; in_old = r.0.in_old; wider = λ over g. subst (λ x. Wider o.2 x.2 over) same_table (r.0.wider over g) }
-    by_test more false is k = more k
+    by_name : (name : Option (List ℕ)) → TitlesDiffer (Some title) name → list_any (bytes_eq title) (map (λ u. u.0) (filter_map new_table ts)) ≡ false → list_any (bytes_eq title) (map (λ u. u.0) (cons_option (option_map (λ n. (n, t.number, shape_of t)) name) (filter_map new_table ts))) ≡ false
+    by_name None d k = k
+    by_name (Some n) d k = rw d k
 
-shape_of_table : (o : Option Table) (shape : Shape) → option_map (λ u. u.2) o ≡ Some shape → (t : Table) × (o ≡ Some t) × (t.2 ≡ shape)
-shape_of_table None shape h = cc
-shape_of_table (Some t) shape h = (t, refl, cc)
+titles_differ : (ts : List DraftTable) → Pairwise Apart ts → all_different (map (λ u. u.0) (filter_map new_table ts)) ≡ true
+titles_differ [] h = refl
+titles_differ (t ∷ ts) h = by_name t.name (each_more (Apart t) (λ u. TitlesDiffer t.name u.name) (λ u a. a.0) ts h.0) (titles_differ ts h.1)
+  where
+    by_name : (name : Option (List ℕ)) → Each (λ u. TitlesDiffer name u.name) ts → all_different (map (λ u. u.0) (filter_map new_table ts)) ≡ true → all_different (map (λ u. u.0) (cons_option (option_map (λ n. (n, t.number, shape_of t)) name) (filter_map new_table ts))) ≡ true
+    by_name None d k = k
+    by_name (Some n) d k = all_true (not (list_any (bytes_eq n) (map (λ u. u.0) (filter_map new_table ts)))) (all_different (map (λ u. u.0) (filter_map new_table ts))) (ap not (titles_apart n ts d)) k
+
+numbers_apart : (number : ℕ) (ts : List DraftTable) → Each (λ t. (number == t.number) ≡ false) ts → list_any (λ m. m == number) (map (λ u. u.1) (filter_map new_table ts)) ≡ false
+numbers_apart number [] h = refl
+numbers_apart number (t ∷ ts) h = by_name t.name (numbers_apart number ts h.1)
+  where
+    other : (t.number == number) ≡ false
+    other = let e = h.0 in grind (arith, nat_tests)
+
+    by_name : (name : Option (List ℕ)) → list_any (λ m. m == number) (map (λ u. u.1) (filter_map new_table ts)) ≡ false → list_any (λ m. m == number) (map (λ u. u.1) (cons_option (option_map (λ n. (n, t.number, shape_of t)) name) (filter_map new_table ts))) ≡ false
+    by_name None k = k
+    by_name (Some n) k = rw other k
+
+numbers_apart_all : (ts : List DraftTable) → Pairwise Apart ts → numbers_differ (map (λ u. u.1) (filter_map new_table ts)) ≡ true
+numbers_apart_all [] h = refl
+numbers_apart_all (t ∷ ts) h = by_name t.name (each_more (Apart t) (λ u. (t.number == u.number) ≡ false) (λ u a. a.1) ts h.0) (numbers_apart_all ts h.1)
+  where
+    by_name : (name : Option (List ℕ)) → Each (λ u. (t.number == u.number) ≡ false) ts → numbers_differ (map (λ u. u.1) (filter_map new_table ts)) ≡ true → numbers_differ (map (λ u. u.1) (cons_option (option_map (λ n. (n, t.number, shape_of t)) name) (filter_map new_table ts))) ≡ true
+    by_name None d k = k
+    by_name (Some n) d k = all_true (not (list_any (λ m. m == t.number) (map (λ u. u.1) (filter_map new_table ts)))) (numbers_differ (map (λ u. u.1) (filter_map new_table ts))) (ap not (numbers_apart t.number ts d)) k
+
+shape_among : (old : Schema) (ts : List DraftTable) (number : ℕ) (shape : Shape) → Each (TableSound old) ts → Each (λ t. bad_table old t ≡ None) ts → option_map (λ u. u.2) (find (λ u. u.1 == number) (filter_map new_table ts)) ≡ Some shape → WellFormed shape
+shape_among old [] number shape s b h = cc
+shape_among old (t ∷ ts) number shape s b h = by_name (shape_among old ts number shape s.1 b.1) t.name refl h
+  where
+    by_test : (n : List ℕ) → is_some t.name ≡ true → (c : Bool) → (option_map (λ u. u.2) (find (λ u. u.1 == number) (filter_map new_table ts)) ≡ Some shape → WellFormed shape) → option_map (λ u. u.2) (if c then Some (n, t.number, shape_of t) else find (λ u. u.1 == number) (filter_map new_table ts)) ≡ Some shape → WellFormed shape
+    by_test n titled true more k = let is : shape_of t ≡ shape = cc in subst WellFormed is (shape_stands old t s.0 (checks_fine old t titled b.0))
+    by_test n titled false more k = more k
+
+    by_name : (option_map (λ u. u.2) (find (λ u. u.1 == number) (filter_map new_table ts)) ≡ Some shape → WellFormed shape) → (name : Option (List ℕ)) → t.name ≡ name → option_map (λ u. u.2) (find (λ u. u.1 == number) (cons_option (option_map (λ n. (n, t.number, shape_of t)) name) (filter_map new_table ts))) ≡ Some shape → WellFormed shape
+    by_name more None e k = more k
+    by_name more (Some n) e k = by_test n (ap is_some e) (t.number == number) more k
 
 pub planned_schema : PlansKeepSchemas
-planned_schema old next_table m plan is h =
-    let rows = planned_rows old next_table m plan is h in
-    record {
-      names = ap all_different (in_common (λ t. t.0) old plan.schema old.tables plan.schema.tables plan.fates (λ o t f row. row.name) rows) ∙ is.names;
-      numbers = ap numbers_differ (same_numbers old plan.schema old.tables plan.schema.tables plan.fates rows) ∙ is.numbers;
-      shapes = λ number shape k.
-          let found = shape_of_table (table_numbered plan.schema number) shape k in
-          let t : Table = found.0 in
-          let row = row_of old plan.schema old.tables plan.schema.tables plan.fates number t rows found.1 in
-          let in_new : shape_numbered plan.schema row.o.1 ≡ Some t.2 = ap (shape_numbered plan.schema) row.same_number ∙ ap (option_map (λ u. u.2)) found.1 in
-          subst WellFormed found.2 (whole_shape row.o.2 t.2 (is.shapes row.o.1 row.o.2 row.in_old) (row.wider t.2 in_new));
-    }
-
--- ---- the tables and their fates
-
-pub keeps_tables : OfAddedColumns KeepsTables
-keeps_tables old next_table m plan is adds h =
-    in_common {X = List ℕ × ℕ} (λ t. (t.0, t.1)) old plan.schema old.tables plan.schema.tables plan.fates (λ o t f row. let name = row.name in let number = row.number in cc) (planned_rows old next_table m plan is h)
-
-fates_of : (old new : Schema) (os ts : List Table) (fs : List (ℕ × Fate)) → Rows old new os ts fs → map (λ f. f.0) fs ≡ numbers os
-fates_of old new [] [] [] r = refl
-fates_of old new [] [] (f ∷ fs) r = absurd r
-fates_of old new [] (t ∷ ts) fs r = absurd r
-fates_of old new (o ∷ os) [] fs r = absurd r
-fates_of old new (o ∷ os) (t ∷ ts) [] r = absurd r
-fates_of old new (o ∷ os) (t ∷ ts) (f ∷ fs) r =
-    let here = r.0.fate_number in
-    let there = fates_of old new os ts fs r.1 in
-    cc
-
-pub has_fates : OfAddedColumns HasFates
-has_fates old next_table m plan is adds h = fates_of old plan.schema old.tables plan.schema.tables plan.fates (planned_rows old next_table m plan is h)
-
-all_kept : (old new : Schema) (os ts : List Table) (fs : List (ℕ × Fate)) → Rows old new os ts fs → list_all (λ f. is_some (lens_in f.1)) fs ≡ true
-all_kept old new [] [] [] r = refl
-all_kept old new [] [] (f ∷ fs) r = absurd r
-all_kept old new [] (t ∷ ts) fs r = absurd r
-all_kept old new (o ∷ os) [] fs r = absurd r
-all_kept old new (o ∷ os) (t ∷ ts) [] r = absurd r
-all_kept old new (o ∷ os) (t ∷ ts) (f ∷ fs) r =
-    all_true (is_some (lens_in f.1)) (list_all (λ f. is_some (lens_in f.1)) fs) (ap (λ fate. is_some (lens_in fate)) r.0.is_kept) (all_kept old new os ts fs r.1)
-
-pub keeps_all : OfAddedColumns KeepsAll
-keeps_all old next_table m plan is adds h = all_kept old plan.schema old.tables plan.schema.tables plan.fates (planned_rows old next_table m plan is h)
-
--- Each table is found by its number exactly where a lens is.
-found_alike : (os : List Table) (fs : List (ℕ × Fate)) (number : ℕ) → map (λ f. f.0) fs ≡ numbers os → list_all (λ f. is_some (lens_in f.1)) fs ≡ true → is_some (option_and_then (λ f. lens_in f.1) (find (λ f. f.0 == number) fs)) ≡ is_some (find (λ o. o.1 == number) os)
-found_alike [] [] number same kept = refl
-found_alike [] (f ∷ fs) number same kept = cc
-found_alike (o ∷ os) [] number same kept = cc
-found_alike (o ∷ os) (f ∷ fs) number same kept =
-    let here : f.0 ≡ o.1 = cc in
-    let rest : map (λ f. f.0) fs ≡ numbers os = cc in
-    let lens = both (is_some (lens_in f.1)) (list_all (λ f. is_some (lens_in f.1)) fs) kept in
-    by_test (found_alike os fs number rest lens.1) lens.0 (o.1 == number) refl (ap (λ n. n == number) here)
-  where
-    by_test : is_some (option_and_then (λ f. lens_in f.1) (find (λ f. f.0 == number) fs)) ≡ is_some (find (λ o. o.1 == number) os) → is_some (lens_in f.1) ≡ true → (b : Bool) → (o.1 == number) ≡ b → (f.0 == number) ≡ (o.1 == number) → is_some (option_and_then (λ f. lens_in f.1) (if f.0 == number then Some f else find (λ f. f.0 == number) fs)) ≡ is_some (if o.1 == number then Some o else find (λ o. o.1 == number) os)
-    by_test more lens true is alike = rw (alike ∙ is, is) lens
-    by_test more lens false is alike = rw (alike ∙ is, is) more
-
-pub has_lenses : OfAddedColumns HasLenses
-has_lenses old next_table m plan is adds h number =
-    let rows = planned_rows old next_table m plan is h in
-    found_alike old.tables plan.fates number (fates_of old plan.schema old.tables plan.schema.tables plan.fates rows) (all_kept old plan.schema old.tables plan.schema.tables plan.fates rows)
+planned_schema old next_table m plan is below h =
+    let c = comes old next_table m plan is below h in
+    let well = least_none (bad_table old) c.draft.tables c.typed in
+    subst (λ p. IsSchema p.schema) c.is
+    (record {
+      names = titles_differ c.draft.tables c.sound.apart;
+      numbers = numbers_apart_all c.draft.tables c.sound.apart;
+      shapes = λ number shape k. shape_among old c.draft.tables number shape c.sound.tables well k;
+    })

@@ -1,5 +1,5 @@
 -- What holds of lenses and plans, whatever the shapes, rows and migrations are.
-use Rattle.std.specs.Prelude.{◌≡◌, ◌≢◌, ℕ, Bool, true, false, not, ◌&&◌, ◌==◌, List, [], ◌∷◌, map, slice_index_or, is_some, Option, Some, Ok, Err}
+use Rattle.std.specs.Prelude.{◌≡◌, ◌≢◌, ◌<◌, ℕ, Bool, true, false, not, ◌&&◌, ◌||◌, ◌==◌, List, [], ◌∷◌, map, slice_index_or, is_some, Option, Some, None, Ok, Err}
 use Rattle.std.specs.List.{list_all, list_any}
 use Rattle.std.specs.Option.{option_map_or}
 use Rattle.sql_base.specs.declared.shapes.Schema.{Schema}
@@ -12,11 +12,13 @@ use Rattle.mig_lens.specs.declared.columns.Lens.{Lens}
 use Rattle.mig_lens.specs.declared.faults.PlanFault.TheVariants.{NoMemory}
 use Rattle.mig_lens.specs.declared.migrations.Migration.{Migration}
 use Rattle.mig_lens.specs.declared.migrations.Op.{Op}
-use Rattle.mig_lens.specs.declared.migrations.Op.TheVariants.{AddColumn}
+use Rattle.mig_lens.specs.declared.migrations.Op.TheVariants as op
+use Rattle.mig_lens.specs.declared.plans.Fate.{Fate}
+use Rattle.mig_lens.specs.declared.plans.Fate.TheVariants.{Created, Dropped, Kept}
 use Rattle.mig_lens.specs.declared.plans.Plan.{Plan}
 use Rattle.mig_lens.specs.Layout.{has_mark}
 use Rattle.mig_lens.specs.Lens.{IsWellFormed, all_carry, backward, carries, fits, forward}
-use Rattle.mig_lens.specs.Plan.{lens_in, lens_of, plan_of, shape_numbered, table_numbered}
+use Rattle.mig_lens.specs.Plan.{Table, fate_numbered, lens_in, lens_of, plan_of, shape_numbered, table_numbered}
 
 -- ---- halves
 
@@ -88,26 +90,62 @@ pub record Joins (lens : Lens) (number : ℕ) (old new : Schema) : Type 0 where
   pub fitting : fits lens before after ≡ true
   pub well_formed : IsWellFormed lens before after
 
+-- The numbers of these tables are below that of the next one.
+abbrev pub AllBelow : ℕ → List Table → Type 0
+AllBelow next [] = Unit {0}
+AllBelow next (table ∷ tables) = (table.1 < next) × AllBelow next tables
+
+-- The number of the next table is above those of a schema's.
+abbrev pub IsBelow : ℕ → Schema → Type 0
+IsBelow next schema = AllBelow next schema.tables
+
 -- Each table that a plan keeps is joined by its lens.
 abbrev pub PlannedLensesJoin : Type 0
 PlannedLensesJoin =
-    (old : Schema) (next_table : ℕ) (m : Migration) (plan : Plan) → IsSchema old → plan_of old next_table m ≡ Ok plan →
+    (old : Schema) (next_table : ℕ) (m : Migration) (plan : Plan) → IsSchema old → IsBelow next_table old → plan_of old next_table m ≡ Ok plan →
     (number : ℕ) (lens : Lens) → lens_of plan number ≡ Some lens → Joins lens number old plan.schema
 
+-- The tables that the fate is about: it is kept in both versions, or one of the two alone has it.
+abbrev pub FateStands : ℕ → Schema → Schema → Fate → Type 0
+FateStands number old new (Kept lens) = Joins lens number old new
+FateStands number old new Created =
+    (table_numbered old number ≡ None) × (is_some (table_numbered new number) ≡ true)
+FateStands number old new Dropped =
+    (is_some (table_numbered old number) ≡ true) × (table_numbered new number ≡ None)
+
+-- Each fate of a plan is about the tables of its number.
+abbrev pub PlannedFatesStand : Type 0
+PlannedFatesStand =
+    (old : Schema) (next_table : ℕ) (m : Migration) (plan : Plan) → IsSchema old → IsBelow next_table old → plan_of old next_table m ≡ Ok plan →
+    (number owner : ℕ) (fate : Fate) → fate_numbered plan number ≡ Some (owner, fate) → FateStands number old plan.schema fate
+
+-- Each table of either version has a fate.
+abbrev pub TablesHaveFates : Type 0
+TablesHaveFates =
+    (old : Schema) (next_table : ℕ) (m : Migration) (plan : Plan) → IsSchema old → IsBelow next_table old → plan_of old next_table m ≡ Ok plan →
+    (number : ℕ) → (is_some (table_numbered old number) || is_some (table_numbered plan.schema number)) ≡ true → is_some (fate_numbered plan number) ≡ true
+
 abbrev pub adds_column : Op → Bool
-adds_column (AddColumn name column up) = true
-adds_column _ = false
+adds_column (op.CreateTable name columns) = false
+adds_column (op.DropTable name) = false
+adds_column (op.RenameTable from to) = false
+adds_column (op.AddColumn name column up) = true
+adds_column (op.DropColumn table column down) = false
+adds_column (op.RenameColumn table from to) = false
+adds_column (op.AlterColumn table column ty nullable default unique check up down) = false
+adds_column (op.CreateConstraint table name columns check up down) = false
+adds_column (op.DropConstraint table name up down) = false
 
 -- Where each operation is add_column, every old column is carried.
 abbrev pub AddedColumnsLoseNothing : Type 0
 AddedColumnsLoseNothing =
-    (old : Schema) (next_table : ℕ) (m : Migration) (plan : Plan) → IsSchema old → list_all adds_column m.operations ≡ true → plan_of old next_table m ≡ Ok plan →
+    (old : Schema) (next_table : ℕ) (m : Migration) (plan : Plan) → IsSchema old → IsBelow next_table old → list_all adds_column m.operations ≡ true → plan_of old next_table m ≡ Ok plan →
     (number : ℕ) (lens : Lens) → lens_of plan number ≡ Some lens → all_carry lens.old_cols ≡ true
 
 -- Of every plan of a migration each operation of which is add_column.
 abbrev pub OfAddedColumns : (Schema → Plan → Type 0) → Type 0
 OfAddedColumns Holds =
-    (old : Schema) (next_table : ℕ) (m : Migration) (plan : Plan) → IsSchema old → list_all adds_column m.operations ≡ true → plan_of old next_table m ≡ Ok plan → Holds old plan
+    (old : Schema) (next_table : ℕ) (m : Migration) (plan : Plan) → IsSchema old → IsBelow next_table old → list_all adds_column m.operations ≡ true → plan_of old next_table m ≡ Ok plan → Holds old plan
 
 -- the names and numbers of a version's tables
 abbrev pub titles : Schema → List (List ℕ × ℕ)
@@ -131,7 +169,7 @@ HasLenses old plan = (number : ℕ) → is_some (lens_of plan number) ≡ is_som
 
 -- The new version is a schema as the old one is.
 abbrev pub PlansKeepSchemas : Type 0
-PlansKeepSchemas = (old : Schema) (next_table : ℕ) (m : Migration) (plan : Plan) → IsSchema old → plan_of old next_table m ≡ Ok plan → IsSchema plan.schema
+PlansKeepSchemas = (old : Schema) (next_table : ℕ) (m : Migration) (plan : Plan) → IsSchema old → IsBelow next_table old → plan_of old next_table m ≡ Ok plan → IsSchema plan.schema
 
 -- Planning isn't refused for want of memory by its definition.
 abbrev pub PlanningWantsNothing : Type 0

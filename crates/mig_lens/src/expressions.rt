@@ -1,16 +1,16 @@
 //! The expressions of a migration, which are typed after all operations.
 
-ghost use Rattle.std.specs.Prelude.{◌≡◌, ◌+◌, ◌<◌, ◌^◌, length, IfOk};
+ghost use Rattle.std.specs.Prelude.{◌≡◌, map, IfOk};
 ghost use Rattle.std.specs.Option.{option_copied};
-ghost use Rattle.std.specs.List.{zip};
 ghost use Rattle.mig_lens.specs.Lens.{types_as};
 ghost use Rattle.sql_eval.specs.Typing.{type_of};
-ghost use Rattle.mig_lens.specs.Plan as spec;
+ghost use Rattle.mig_lens.specs.Places as spec;
 
+use crate::drafts::{DraftCheck, DraftColumn, DraftTable};
 use crate::faults::{Member, Place};
-use crate::migrations::{ColumnDef, Op};
+use crate::finishing::shape_of;
 use crate::tables::shape_numbered;
-use sql_base::{Check, Expr, NoMemory, Schema, Shape, Ty, TypeFault, names_column};
+use sql_base::{Column, Expr, NoMemory, Schema, Shape, Ty, TypeFault, names_column};
 use sql_eval::type_of;
 use std::alloc::Global;
 
@@ -56,133 +56,216 @@ fn earlier(p: Option<Place>, q: Option<Place>) -> Option<Place>
     }
 }
 
-fn bad_up(
+/// The place, where the expression doesn't have the wanted type over the shape.
+fn bad(
     alloc: Global,
-    at: u64,
-    column: &ColumnDef,
-    shape: Option<&Shape>,
-    up: &Option<Expr>,
+    over: &Shape,
+    wanted: Ty,
+    expr: &Expr,
+    place: Place,
 ) -> Result<Option<Place>, NoMemory>
-    ensures { IfOk result (λ bad. bad ≡ spec.bad_up at column.now (option_copied shape.entry) up.now) }
+    ensures { IfOk result (λ bad. bad ≡ spec.bad over.now wanted expr.now place) }
 {
-    match (shape, up) {
-        (Some(shape), Some(up)) if !types_as(alloc, up, shape, column.ty)? => {
-            Ok(Some(Place {
-                operation: at,
-                member: Member::Up,
-            }))
+    if types_as(alloc, expr, over, wanted)? {
+        return Ok(None);
+    }
+    Ok(Some(place))
+}
+
+/// `up` or `down` of a column, over the other side's shape.
+fn bad_way(
+    alloc: Global,
+    over: Option<&Shape>,
+    member: Member,
+    at: Option<u64>,
+    column: &Option<Column>,
+    expr: &Option<Expr>,
+) -> Result<Option<Place>, NoMemory>
+    ensures { IfOk result (λ bad. bad ≡ spec.bad_way (option_copied over.entry) member at column.now expr.now) }
+{
+    match (over, at, column, expr) {
+        (Some(over), Some(operation), Some(column), Some(expr)) => {
+            bad(alloc, over, column.ty, expr, Place { operation, member })
         }
         _ => Ok(None),
     }
 }
 
-/// Whether the expression names the column that is the operation's subject.
-fn names_subject(expr: &Expr, op: &Op) -> bool
-    ensures { result ≡ spec.names_subject expr.now op.now }
+fn bad_column(
+    alloc: Global,
+    old: Option<&Shape>,
+    new: Option<&Shape>,
+    column: &DraftColumn,
+) -> Result<Option<Place>, NoMemory>
+    ensures { IfOk result (λ bad. bad ≡ spec.bad_column (option_copied old.entry) (option_copied new.entry) column.now) }
 {
-    match op {
-        Op::AddColumn { column, .. } => names_column(expr, &column.name),
-        _ => false,
+    let after = &column.after;
+    let up = bad_way(
+        alloc,
+        old,
+        Member::Up,
+        after.subject,
+        &after.column,
+        &after.up,
+    )?;
+    let down = bad_way(
+        alloc,
+        new,
+        Member::Down,
+        after.subject,
+        &column.before,
+        &after.down,
+    )?;
+    Ok(earlier(up, down))
+}
+
+fn bad_columns(
+    alloc: Global,
+    old: Option<&Shape>,
+    new: Option<&Shape>,
+    columns: &[DraftColumn],
+) -> Result<Option<Place>, NoMemory>
+    ensures { IfOk result (λ bad. bad ≡ spec.least (map (spec.bad_column (option_copied old.entry) (option_copied new.entry)) columns.now)) }
+{
+    let mut first = None;
+    for column in columns {
+        let bad = bad_column(alloc, old, new, column)?;
+        first = earlier(first, bad);
+    }
+    Ok(first)
+}
+
+// ---- checks
+
+fn is_retyped(before: &Option<Column>, now: &Column) -> bool
+    ensures { result ≡ spec.is_retyped before.now now.now }
+{
+    match before {
+        Some(column) => column.ty != now.ty,
+        None => false,
     }
 }
 
-/// Where a check of the table of this number is typed: at the last of the later operations on the table whose subject it
-/// names, and else at the place where it is made. The first of the later operations has the place after that one.
-fn check_place(check: &Expr, number: u32, made: u64, later: &[Op], meant: &[u32]) -> u64
-    requires { made + 1 + length later.now < 2 ^ 64 }
-    ensures { result ≡ spec.check_place check.now number made (made + 1) (zip later.now meant.now) }
+fn touched(
+    expr: &Expr,
+    made: bool,
+    before: &Option<Column>,
+    now: &Column,
+    subject: Option<u64>,
+) -> u64
+    ensures { result ≡ spec.touched expr.now made before.now now.now subject }
 {
-    let mut place = made;
-    for (step, op) in later.iter().enumerate() {
-        let Some(other) = meant.get(step) else {
-            break;
-        };
-        if *other == number && names_subject(check, op) {
-            place = made + 1 + step as u64;
-        }
+    if names_column(expr, &now.name) && (made || is_retyped(before, now)) {
+        subject.unwrap_or(0)
+    } else {
+        0
+    }
+}
+
+fn touched_at(expr: &Expr, made: bool, column: &DraftColumn) -> u64
+    ensures { result ≡ spec.touched_at expr.now made column.now }
+{
+    match &column.after.column {
+        Some(now) => touched(expr, made, &column.before, now, column.after.subject),
+        None => 0,
+    }
+}
+
+/// The operation at which a check is typed.
+fn check_place(columns: &[DraftColumn], check: &DraftCheck) -> u64
+    ensures { result ≡ spec.check_place columns.now check.now }
+{
+    let mut place = check.made.unwrap_or(0);
+    for column in columns {
+        place = place.max(touched_at(&check.check.expr, check.made.is_some(), column));
     }
     place
 }
 
-/// The place of the check that the operation at this place makes, where it isn't boolean.
 fn bad_check(
     alloc: Global,
-    shape: Option<&Shape>,
-    number: u32,
-    at: u64,
-    later: &[Op],
-    meant: &[u32],
-    check: &Option<Check>,
+    new: Option<&Shape>,
+    columns: &[DraftColumn],
+    check: &DraftCheck,
 ) -> Result<Option<Place>, NoMemory>
-    requires { at + 1 + length later.now < 2 ^ 64 }
-    ensures { IfOk result (λ bad. bad ≡ spec.bad_check (option_copied shape.entry) number at (zip later.now meant.now) check.now) }
+    ensures { IfOk result (λ bad. bad ≡ spec.bad_check (option_copied new.entry) columns.now check.now) }
 {
-    match (shape, check) {
-        (Some(shape), Some(check)) => {
-            if types_as(alloc, &check.expr, shape, Ty::Boolean)? {
-                return Ok(None);
-            }
-            let operation = check_place(&check.expr, number, at, later, meant);
-            Ok(Some(Place {
-                operation,
+    match new {
+        Some(over) => {
+            let place = Place {
+                operation: check_place(columns, check),
                 member: Member::Check,
-            }))
+            };
+            bad(alloc, over, Ty::Boolean, &check.check.expr, place)
         }
-        _ => Ok(None),
+        None => Ok(None),
     }
 }
 
-/// The first place of an expression of this operation that doesn't type, where `meant` goes with the later operations.
+fn bad_checks(
+    alloc: Global,
+    new: Option<&Shape>,
+    columns: &[DraftColumn],
+    checks: &[DraftCheck],
+) -> Result<Option<Place>, NoMemory>
+    ensures { IfOk result (λ bad. bad ≡ spec.least (map (spec.bad_check (option_copied new.entry) columns.now) checks.now)) }
+{
+    let mut first = None;
+    for check in checks {
+        let bad = bad_check(alloc, new, columns, check)?;
+        first = earlier(first, bad);
+    }
+    Ok(first)
+}
+
+// ---- all of them
+
+fn shape_now(alloc: Global, table: &DraftTable) -> Result<Option<Shape>, NoMemory>
+    ensures { IfOk result (λ shape. shape ≡ spec.shape_now table.now) }
+{
+    match &table.name {
+        Some(_) => Ok(Some(shape_of(alloc, table)?)),
+        None => Ok(None),
+    }
+}
+
 fn bad_in(
     alloc: Global,
-    old: &Schema,
-    new: &Schema,
-    at: u64,
-    later: &[Op],
-    meant: &[u32],
-    number: u32,
-    op: &Op,
+    old: Option<&Shape>,
+    new: Option<&Shape>,
+    table: &DraftTable,
 ) -> Result<Option<Place>, NoMemory>
-    requires { at + 1 + length later.now < 2 ^ 64 }
-    ensures { IfOk result (λ bad. bad ≡ spec.bad_in old.now new.now at (zip later.now meant.now) (op.now, number)) }
+    ensures { IfOk result (λ bad. bad ≡ spec.bad_in (option_copied old.entry) (option_copied new.entry) table.now) }
 {
-    match op {
-        Op::AddColumn { column, up, .. } => {
-            let up = bad_up(alloc, at, column, shape_numbered(old, number), up)?;
-            let new_shape = shape_numbered(new, number);
-            let check = bad_check(alloc, new_shape, number, at, later, meant, &column.check)?;
-            Ok(earlier(up, check))
-        }
-        _ => Ok(None),
-    }
+    let columns = table.columns.as_slice();
+    let ways = bad_columns(alloc, old, new, columns)?;
+    let checks = bad_checks(alloc, new, columns, table.checks.as_slice())?;
+    Ok(earlier(ways, checks))
 }
 
-/// The first place of an expression of these operations that doesn't type. `meant` has the number of the table that each
-/// of them meant.
+fn bad_table(alloc: Global, old: &Schema, table: &DraftTable) -> Result<Option<Place>, NoMemory>
+    ensures { IfOk result (λ bad. bad ≡ spec.bad_table old.now table.now) }
+{
+    let new = shape_now(alloc, table)?;
+    bad_in(
+        alloc,
+        shape_numbered(old, table.number),
+        new.as_ref(),
+        table,
+    )
+}
+
+/// The first place of an expression that doesn't type.
 pub fn first_bad(
     alloc: Global,
     old: &Schema,
-    new: &Schema,
-    ops: &[Op],
-    meant: &[u32],
+    tables: &[DraftTable],
 ) -> Result<Option<Place>, NoMemory>
-    ensures { IfOk result (λ bad. bad ≡ spec.first_bad old.now new.now 0 (zip ops.now meant.now)) }
+    ensures { IfOk result (λ bad. bad ≡ spec.first_bad old.now tables.now) }
 {
     let mut first = None;
-    for (at, op) in ops.iter().enumerate() {
-        let Some(number) = meant.get(at) else {
-            break;
-        };
-        let bad = bad_in(
-            alloc,
-            old,
-            new,
-            at as u64,
-            &ops[at + 1..],
-            &meant[at + 1..],
-            *number,
-            op,
-        )?;
+    for table in tables {
+        let bad = bad_table(alloc, old, table)?;
         first = earlier(first, bad);
     }
     Ok(first)

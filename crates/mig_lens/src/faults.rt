@@ -85,7 +85,6 @@ pub enum Refusal {
     BadScript(u32),
 }
 
-/// Why a migration has no plan. The fields are those of the refusal of the same name; `NotYet` is none.
 #[derive(Debug, Drop, PartialEq, Eq, Error)]
 pub enum PlanFault {
     /// P7: no table of the old version that isn't dropped has this name.
@@ -118,9 +117,6 @@ pub enum PlanFault {
     /// P20: a quantity passes its limit; which.
     #[error("a limit is passed")]
     Limit(Name),
-    /// The operation at this place, from 0, is of a kind that isn't planned yet.
-    #[error("an operation of this kind is not planned yet")]
-    NotYet(u64),
     /// Memory was refused.
     #[error("out of memory")]
     NoMemory,
@@ -196,7 +192,6 @@ impl Copying for PlanFault {
             PlanFault::BadExpr(place) => PlanFault::BadExpr(*place),
             PlanFault::BadType(place) => PlanFault::BadType(*place),
             PlanFault::Limit(name) => PlanFault::Limit(name.copy(alloc)?),
-            PlanFault::NotYet(at) => PlanFault::NotYet(*at),
             PlanFault::NoMemory => PlanFault::NoMemory,
         };
         Ok(copy)

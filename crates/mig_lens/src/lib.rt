@@ -2,15 +2,22 @@
 #![tactic(auto)]
 
 mod adding;
+mod altering;
 mod columns;
+mod constraints;
+mod creating;
+mod drafts;
 mod expressions;
 mod faults;
+mod finishing;
 mod halves;
 pub mod laws;
 mod layouts;
 mod migrations;
 mod planning;
 mod plans;
+mod renaming;
+mod standing;
 mod tables;
 
 pub use columns::{Cell, Lens, Side};

@@ -61,8 +61,155 @@ const PLANS: &[(&str, &str)] = &[
         "users age bigint null up=name; people age bigint",
         "P7 people",
     ),
-    ("users age bigint null; drop", "not yet 1"),
 ];
+
+/// Migrations of `users (id, name)` with the other operations.
+const OPERATIONS: &[(&str, &str)] = &[
+    // tables
+    ("drop people", "P7 people"),
+    ("drop users; users age bigint null", "P7 users"),
+    ("rename users people; users age bigint null", "P7 users"),
+    ("rename users users", "P9 users"),
+    ("create users id bigint pk", "P9 users"),
+    ("drop users; create users id bigint pk", "P9 users"),
+    ("rename users people; create users id bigint pk", "P9 users"),
+    ("create t id bigint pk | id text", "P9 id"),
+    ("create t id bigint pk check=t_pkey:1", "P9 t_pkey"),
+    ("create t id bigint pk check=k:1 | b text check=k:1", "P9 k"),
+    ("create t id bigint", "P10 t"),
+    ("create t id text pk", "P10 t"),
+    ("create t id bigint pk default=1", "P10 t"),
+    ("create t id bigint pk | b bigint pk", "P10 t"),
+    (
+        "create t id bigint pk | b bigint default='x'",
+        "P15 operations[0].default",
+    ),
+    (
+        "create t id bigint pk | b bigint check=k:age>0",
+        "P14 operations[0].check",
+    ),
+    ("create t id bigint pk; rename t u", "P7 t"),
+    // drop_column
+    ("drop people name", "P7 people"),
+    ("drop users age", "P8 users age"),
+    ("drop users id", "P10 users"),
+    ("users age bigint null; drop users age", "P11 users age"),
+    ("drop users name down=1", "P14 operations[0].down"),
+    ("drop users name down=name", "P14 operations[0].down"),
+    ("drop users name", "id! ; 0 / 0 =NULL"),
+    ("drop users name down='x'", "id! ; 0 / 0 up"),
+    // rename_column
+    ("rename users age years", "P8 users age"),
+    ("rename users name name", "P9 name"),
+    ("rename users name id", "P9 id"),
+    ("rename users name b; rename users b c", "P11 users b"),
+    ("rename users name b; rename users b name", "P9 name"),
+    ("rename users id key", "key! name! ; 0 1 / 0 1"),
+    // alter_column
+    ("alter users age null", "P8 users age"),
+    ("alter users name unique=users_pkey", "P9 users_pkey"),
+    ("alter users name unique=u check=u:1", "P9 u"),
+    ("alter users id null", "P10 users"),
+    (
+        "alter users name default='a'; alter users name default='b'",
+        "P11 users name",
+    ),
+    ("alter users name bigint down='x'", "P12 users name"),
+    ("alter users name bigint up=1", "P13 users name"),
+    ("alter users name null", "P13 users name"),
+    ("alter users name null up=name", "P13 users name"),
+    ("alter users name default=1", "P15 operations[0].default"),
+    (
+        "alter users name bigint default='x' up=1 down='x'",
+        "P15 operations[0].default",
+    ),
+    (
+        "alter users name bigint up=name down='x'",
+        "P14 operations[0].up",
+    ),
+    (
+        "alter users name bigint up=1 down=name",
+        "P14 operations[0].down",
+    ),
+    (
+        "alter users name bigint up=1 down=id",
+        "P14 operations[0].down",
+    ),
+    (
+        "alter users name bigint up=1 down='x'",
+        "id! name! ; 0 up / 0 up",
+    ),
+    ("alter users name null down='x'", "id! name ; 0 up / 0 up"),
+    ("alter users name up=name", "id! name! ; 0 up / 0 up"),
+    ("alter users name text not_null", "id! name! ; 0 1 / 0 1"),
+    ("alter users name unique=u", "id! name! u (1) ; 0 1 / 0 1"),
+    // create_constraint
+    ("constrain users u age", "P8 users age"),
+    ("constrain users u name up=id:1", "P8 users id"),
+    ("constrain users users_pkey name", "P9 users_pkey"),
+    ("constrain users u id,name up=id:1", "P10 users"),
+    (
+        "rename users name b; constrain users u b up=b:'x'",
+        "P11 users b",
+    ),
+    ("constrain users u name up=name:1", "P14 operations[0].up"),
+    (
+        "constrain users c name expr=name",
+        "P14 operations[0].check",
+    ),
+    (
+        "constrain users u name,id",
+        "id! name! u (1) (0) ; 0 1 / 0 1",
+    ),
+    (
+        "constrain users u name up=name:'x'",
+        "id! name! u (1) ; 0 up / 0 up",
+    ),
+    (
+        "constrain users u name; drop users name",
+        "id! ; 0 / 0 =NULL",
+    ),
+    // drop_constraint
+    ("free users u", "P8 users u"),
+    ("free users users_pkey", "P10 users"),
+    ("free users users_pkey up=name:1", "P8 users name"),
+    (
+        "constrain users u name; free users u up=id:1",
+        "P8 users id",
+    ),
+    (
+        "constrain users u id,name; free users u up=1",
+        "P14 operations[1].up",
+    ),
+    (
+        "constrain users u id,name; free users u down=1",
+        "P14 operations[1].down",
+    ),
+    (
+        "constrain users u name; free users u up='x'",
+        "id! name! ; 0 up / 0 up",
+    ),
+    (
+        "constrain users u name; free users u",
+        "id! name! ; 0 1 / 0 1",
+    ),
+    // a later fault comes before an expression that doesn't type
+    ("drop users name down=1; drop people", "P7 people"),
+    (
+        "users age bigint null up=name; drop users",
+        "P14 operations[0].up",
+    ),
+];
+
+#[test]
+fn operations_are_as_the_rules_say(rt: HostRuntime) -> Result<(), Fail> {
+    let alloc = rt.alloc();
+    for (words, wanted) in OPERATIONS {
+        let answer = answered(alloc, words)?;
+        assert!(rt; answer.as_str() == *wanted, "{words}: {answer}");
+    }
+    Ok(())
+}
 
 fn planned_users(alloc: Global, m: &Migration) -> Result<Plan, PlanFault> {
     plan(alloc, &users(alloc)?, 2, m)
@@ -128,6 +275,27 @@ fn a_table_has_at_most_32_columns(rt: HostRuntime) -> Result<(), Fail> {
     assert!(rt; most.starts_with("id! name! c c1 c2 "), "{most}");
     let more = answered(alloc, columns(alloc, 31)?.as_str())?;
     assert!(rt; more.as_str() == "P20 columns", "{more}");
+    Ok(())
+}
+
+// A migration that drops `users` or nothing, and then creates so many tables.
+fn creating(alloc: Global, first: &str, count: u32) -> Result<String, Fail> {
+    let mut words = String::from_str(alloc, first)?;
+    for n in 0..count {
+        words.push_str(format!(in alloc; "; create t{n} id bigint pk")?.as_str())?;
+    }
+    Ok(words)
+}
+
+#[test]
+fn a_version_has_at_most_64_tables(rt: HostRuntime) -> Result<(), Fail> {
+    let alloc = rt.alloc();
+    let most = answered(alloc, creating(alloc, "rename users people", 63)?.as_str())?;
+    assert!(rt; !most.starts_with("P"), "{most}");
+    let more = answered(alloc, creating(alloc, "rename users people", 64)?.as_str())?;
+    assert!(rt; more.as_str() == "P20 tables", "{more}");
+    let in_place = answered(alloc, creating(alloc, "drop users", 64)?.as_str())?;
+    assert!(rt; !in_place.starts_with("P"), "{in_place}");
     Ok(())
 }
 

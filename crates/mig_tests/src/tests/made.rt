@@ -1,5 +1,5 @@
 //! Schemas, migrations and rows from words.
-use mig_lens::{ColumnDef, Migration, Op};
+use mig_lens::{ColumnDef, Migration, Op, Ways};
 use sql_base::{
     Arm, BinOp, Check, Column, Expr, List, Name, NoMemory, Schema, Shape, SqlText, Ty, Value,
 };
@@ -175,13 +175,178 @@ fn added(alloc: Global, words: &str) -> Result<Op, Fail> {
     add_column(alloc, table, column, words)
 }
 
-fn operation(alloc: Global, words: &str) -> Result<Op, Fail> {
-    if words == "drop" {
+fn expr_behind(alloc: Global, words: &str, front: &str) -> Result<Option<Expr>, Fail> {
+    match behind(words, front) {
+        Some(word) => Ok(Some(expr(alloc, word)?)),
+        None => Ok(None),
+    }
+}
+
+fn name_behind(alloc: Global, words: &str, front: &str) -> Result<Option<Name>, Fail> {
+    match behind(words, front) {
+        Some(word) => Ok(Some(name(alloc, word)?)),
+        None => Ok(None),
+    }
+}
+
+/// A word, and the words behind it.
+fn parted(words: &str) -> (&str, &str) {
+    words.split_once(' ').unwrap_or((words, ""))
+}
+
+/// `NAME:EXPRESSION` behind this, or nothing.
+fn pairs_behind(alloc: Global, words: &str, front: &str) -> Result<List<(Name, Expr)>, Fail> {
+    match behind(words, front) {
+        Some(words) => {
+            let (column, word) = words.split_once(':').ok_or("no column")?;
+            Ok(one(alloc, (name(alloc, column)?, expr(alloc, word)?))?)
+        }
+        None => Ok(List::new(alloc)),
+    }
+}
+
+/// One expression behind this, or `NAME:EXPRESSION` for one column.
+fn ways_behind(alloc: Global, words: &str, front: &str) -> Result<Option<Ways>, Fail> {
+    match behind(words, front) {
+        Some(word) if word.contains(':') => {
+            Ok(Some(Ways::Each(pairs_behind(alloc, words, front)?)))
+        }
+        Some(word) => Ok(Some(Ways::One(expr(alloc, word)?))),
+        None => Ok(None),
+    }
+}
+
+fn type_of(words: &str) -> Option<Ty> {
+    if has(words, "text") {
+        return Some(Ty::Text);
+    }
+    if has(words, "bigint") {
+        Some(Ty::Bigint)
+    } else {
+        None
+    }
+}
+
+fn nullable(words: &str) -> Option<bool> {
+    if has(words, "null") {
+        return Some(true);
+    }
+    if has(words, "not_null") {
+        Some(false)
+    } else {
+        None
+    }
+}
+
+/// `alter`: table, column, and then `bigint` or `text`, `null` or `not_null`, `default=`, `unique=`, `check=NAME:`, `up=`
+/// and `down=` as there are.
+fn altered(alloc: Global, words: &str) -> Result<Op, Fail> {
+    let (table, words) = parted(words);
+    let (column, words) = parted(words);
+    let default = match behind(words, "default=") {
+        Some(_) => Some(default(alloc, words)?),
+        None => None,
+    };
+    Ok(Op::AlterColumn {
+        table: name(alloc, table)?,
+        column: name(alloc, column)?,
+        ty: type_of(words),
+        nullable: nullable(words),
+        default,
+        unique: name_behind(alloc, words, "unique=")?,
+        check: checked(alloc, words)?,
+        up: up(alloc, words)?,
+        down: expr_behind(alloc, words, "down=")?,
+    })
+}
+
+/// `constrain`: table, name, columns with commas between them, and then `expr=`, `up=COLUMN:` and `down=COLUMN:`.
+fn constrained(alloc: Global, words: &str) -> Result<Op, Fail> {
+    let (table, words) = parted(words);
+    let (constraint, words) = parted(words);
+    let (listed, words) = parted(words);
+    let mut columns = List::new(alloc);
+    for column in listed.split(',') {
+        columns.push(name(alloc, column)?)?;
+    }
+    Ok(Op::CreateConstraint {
+        table: name(alloc, table)?,
+        name: name(alloc, constraint)?,
+        columns,
+        check: expr_behind(alloc, words, "expr=")?,
+        up: pairs_behind(alloc, words, "up=")?,
+        down: pairs_behind(alloc, words, "down=")?,
+    })
+}
+
+/// `free`: table, name, and then `up=` and `down=`.
+fn freed(alloc: Global, words: &str) -> Result<Op, Fail> {
+    let (table, words) = parted(words);
+    let (constraint, words) = parted(words);
+    Ok(Op::DropConstraint {
+        table: name(alloc, table)?,
+        name: name(alloc, constraint)?,
+        up: ways_behind(alloc, words, "up=")?,
+        down: ways_behind(alloc, words, "down=")?,
+    })
+}
+
+/// `create`: a name, and then columns as `add_column` has them, with ` | ` between them.
+fn created(alloc: Global, words: &str) -> Result<Op, Fail> {
+    let (table, words) = parted(words);
+    let mut columns = List::new(alloc);
+    for words in words.split(" | ") {
+        let (column, words) = parted(words);
+        columns.push(defined(alloc, column, words)?)?;
+    }
+    Ok(Op::CreateTable {
+        name: name(alloc, table)?,
+        columns,
+    })
+}
+
+fn dropped(alloc: Global, words: &str) -> Result<Op, Fail> {
+    let (table, words) = parted(words);
+    if words.is_empty() {
         return Ok(Op::DropTable {
-            name: name(alloc, "users")?,
+            name: name(alloc, table)?,
         });
     }
-    added(alloc, words)
+    let (column, words) = parted(words);
+    Ok(Op::DropColumn {
+        table: name(alloc, table)?,
+        column: name(alloc, column)?,
+        down: expr_behind(alloc, words, "down=")?,
+    })
+}
+
+fn renamed(alloc: Global, words: &str) -> Result<Op, Fail> {
+    let (first, words) = parted(words);
+    let (second, third) = parted(words);
+    if third.is_empty() {
+        return Ok(Op::RenameTable {
+            from: name(alloc, first)?,
+            to: name(alloc, second)?,
+        });
+    }
+    Ok(Op::RenameColumn {
+        table: name(alloc, first)?,
+        from: name(alloc, second)?,
+        to: name(alloc, third)?,
+    })
+}
+
+fn operation(alloc: Global, words: &str) -> Result<Op, Fail> {
+    let (kind, rest) = parted(words);
+    match kind {
+        "create" => created(alloc, rest),
+        "drop" => dropped(alloc, rest),
+        "rename" => renamed(alloc, rest),
+        "alter" => altered(alloc, rest),
+        "constrain" => constrained(alloc, rest),
+        "free" => freed(alloc, rest),
+        _ => added(alloc, words),
+    }
 }
 
 fn operations(alloc: Global, words: &str) -> Result<List<Op>, Fail> {
@@ -192,7 +357,8 @@ fn operations(alloc: Global, words: &str) -> Result<List<Op>, Fail> {
     Ok(all)
 }
 
-/// Operations, with `; ` between them. One of the single word `drop` drops `users`.
+/// Operations, with `; ` between them: `create`, `drop` and `rename` of a table or a column, `alter`, `constrain`, `free`,
+/// and without such a word `add_column`.
 pub fn migration(alloc: Global, words: &str) -> Result<Migration, Fail> {
     let name = name(alloc, "02")?;
     let operations = operations(alloc, words)?;

@@ -100,7 +100,6 @@ pub fn fault(alloc: Global, fault: &PlanFault) -> Result<String, Fail> {
         PlanFault::BadExpr(at) => return place(alloc, "P14", *at),
         PlanFault::BadType(at) => return place(alloc, "P15", *at),
         PlanFault::Limit(name) => ("P20", word(name), ""),
-        PlanFault::NotYet(at) => return Ok(format!(in alloc; "not yet {at}")?),
         PlanFault::NoMemory => ("memory", "", ""),
     };
     if second.is_empty() {

@@ -1,4 +1,4 @@
-use Rattle.mig_lens.proofs.Planned.{has_fates, has_lenses, keeps_all, keeps_tables}
+use Rattle.mig_lens.proofs.OnlyAdded.{has_fates, has_lenses, keeps_all, keeps_tables}
 use Rattle.mig_lens.proofs.laws.added_columns_keep_tables.Goals as goal
 
 pub returns-clause-tables : goal.returns-clause-tables

@@ -1,4 +1,5 @@
-use Rattle.mig_lens.proofs.Planned.{added_columns_lose_nothing, planned_lenses_join}
+use Rattle.mig_lens.proofs.OnlyAdded.{added_columns_lose_nothing}
+use Rattle.mig_lens.proofs.Planned.{planned_lenses_join}
 use Rattle.mig_lens.proofs.laws.planned_lenses_join.Goals as goal
 
 pub returns-clause-join : goal.returns-clause-join
