@@ -38,11 +38,3 @@ every_each f P h (x ∷ xs) ys e =
     let first = and_then_ok (f x) (λ y. and_then (every (map f xs)) (λ ys. Ok (y ∷ ys))) ys e in
     let rest = and_then_ok (every (map f xs)) (λ ys. Ok (first.0 ∷ ys)) ys first.2 in
     subst (Each P) (ok_same (first.0 ∷ rest.0) ys rest.2) (h x first.0 first.1, every_each f P h xs rest.0 rest.1)
-
--- So it does where it holds of what the values are made of.
-pub every_made : {X Y E : Type 0} (f : X → Result Y E) (P : X → Type 0) (Q : Y → Type 0) → ((x : X) (y : Y) → P x → f x ≡ Ok y → Q y) → (xs : List X) (ys : List Y) → Each P xs → every (map f xs) ≡ Ok ys → Each Q ys
-every_made f P Q h [] ys p e = subst (Each Q) (ok_same [] ys e) tt
-every_made f P Q h (x ∷ xs) ys p e =
-    let first = and_then_ok (f x) (λ y. and_then (every (map f xs)) (λ ys. Ok (y ∷ ys))) ys e in
-    let rest = and_then_ok (every (map f xs)) (λ ys. Ok (first.0 ∷ ys)) ys first.2 in
-    subst (Each Q) (ok_same (first.0 ∷ rest.0) ys rest.2) (h x first.0 p.0 first.1, every_made f P Q h xs rest.0 p.1 rest.1)

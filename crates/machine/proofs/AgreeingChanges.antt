@@ -18,7 +18,7 @@ use Rattle.machine.specs.Words.{Expr, Halves, Job, Kept, New, Old, Side, Table}
 use Rattle.machine.specs.Words.job
 use Rattle.machine.proofs.Accepting.{map_fault_ok, without_ok}
 use Rattle.machine.proofs.Filling.{fills}
-use Rattle.machine.proofs.JobChanges.{Makes, changes_made}
+use Rattle.row_rules.specs.Made.{Makes, changes_made}
 use Rattle.machine.proofs.SiteHalves.{site_at}
 
 -- The halves that a lens makes of each other agree.

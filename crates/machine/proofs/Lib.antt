@@ -10,7 +10,6 @@ pub mod Ending
 pub mod Filling
 pub mod FoundSites
 pub mod GivenValues
-pub mod JobChanges
 pub mod Joining
 pub mod KeepingLaws
 pub mod Lanes

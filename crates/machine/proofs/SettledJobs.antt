@@ -23,7 +23,8 @@ use Rattle.row_rules.specs.Site.{shape_of}
 use Rattle.machine.specs.Sites.{JobStands, SetStands}
 use Rattle.machine.specs.Words.{Column, Expr, Job, Shape, SqlError, Table}
 use Rattle.machine.specs.Words.job
-use Rattle.machine.proofs.Accepting.{every_each, every_made, guarded_ok, if_none, map_fault_ok, without_ok}
+use Rattle.row_rules.specs.Made.{every_made}
+use Rattle.machine.proofs.Accepting.{every_each, guarded_ok, if_none, map_fault_ok, without_ok}
 use Rattle.machine.proofs.GivenValues.{AllSuit, SuitFrom, evaluated_suits, first_suits, or_else, rest_suits, same_is, suit_from}
 use Rattle.machine.proofs.Moving.{each_both, each_so, map_each}
 

@@ -17,10 +17,10 @@ use Rattle.machine.specs.Sites.{ChangeStands, JobStands, SetStands, SiteRow, Sit
 use Rattle.machine.specs.Standing.{HalfStands}
 use Rattle.machine.specs.Words.{Change, Expr, Halves, Job, Kept, Shape}
 use Rattle.machine.specs.Words.job
-use Rattle.machine.proofs.Accepting.{every_made, map_fault_ok}
+use Rattle.machine.proofs.Accepting.{map_fault_ok}
 use Rattle.machine.specs.Below.{Below}
 use Rattle.machine.proofs.GivenValues.{Suits, evaluated_suits, given_fits, given_stays, lookup_none, suit_from}
-use Rattle.machine.proofs.JobChanges.{Makes, changes_made}
+use Rattle.row_rules.specs.Made.{Makes, changes_made, every_made}
 use Rattle.machine.proofs.Moving.{each_so}
 use Rattle.machine.proofs.SiteHalves.{Touched, filled_row_stands, new_row_stands, remade_stands, same_key, touched_stands}
 

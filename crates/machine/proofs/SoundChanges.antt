@@ -13,7 +13,7 @@ use Rattle.machine.specs.Words.{Change, Expr, Job, Kept}
 use Rattle.machine.specs.Words.job
 use Rattle.machine.proofs.Accepting.{without_ok}
 use Rattle.machine.proofs.Filling.{fills}
-use Rattle.machine.proofs.JobChanges.{Makes, changes_made}
+use Rattle.row_rules.specs.Made.{Makes, changes_made}
 use Rattle.machine.proofs.Moving.{each}
 
 -- Nothing is wrong with the row.

@@ -6,9 +6,9 @@ use Rattle.sql_base.specs.Fit.{row_fits}
 use Rattle.sql_eval.specs.Shape.{WellFormed}
 use Rattle.mig_lens.specs.Layout.{has_mark}
 use Rattle.mig_lens.specs.Lens.{IsWellFormed, carries, fits}
-use Rattle.row_rules.specs.declared.kinds.Change.TheVariants.{Put, Remove}
 use Rattle.row_rules.specs.Settle.{value_error}
 use Rattle.row_rules.specs.Site.{Beside, Site, number_of, shape_of}
+pub use Rattle.row_rules.specs.Made.{OfPut}
 use Rattle.machine.specs.State.{Found, Shared, table_on}
 use Rattle.machine.specs.Standing.{HalfStands, NewStands}
 use Rattle.machine.specs.Words.{Change, Expr, Halves, Job, Kept, Lens, New, Null, Old, Shape, Side, State, Table, Value}
@@ -89,11 +89,6 @@ JobStands shape (job.Put rows) = AllByRecursion (λ values. row_fits shape value
 JobStands shape (job.Alter sets condition) = AllByRecursion (SetStands shape) sets
 JobStands shape (job.Remove condition) = Unit {0}
 JobStands shape job.Fill = Unit {0}
-
--- It holds of the row, where one is put.
-abbrev pub OfPut : (Kept → Type 0) → Change → Type 0
-OfPut Holds (Put row) = Holds row
-OfPut Holds (Remove key) = Unit {0}
 
 -- A row that is put stands.
 abbrev pub ChangeStands : (ℕ → Type 0) → Site → Change → Type 0

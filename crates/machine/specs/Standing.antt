@@ -4,9 +4,7 @@
 use Rattle.std.specs.Prelude.{◌≡◌, ◌⊎◌, ◌≤◌, ◌<◌, ℕ, ℤ, Bool, true, false, ◌==◌, List, [], ◌∷◌, Option, Some, None, is_some, nat_eq}
 use Rattle.std.specs.List.{AllByRecursion, list_all, list_any}
 use Rattle.std.specs.Option.{option_map_or}
-use Rattle.std.specs.Ordering.{int_cmp}
 use Rattle.std.specs.Str.{bytes_eq}
-use Rattle.std.specs.declared.cmp.Ordering.TheVariants.{Less}
 use Rattle.sql_base.specs.Fit.{row_fits}
 use Rattle.sql_base.specs.declared.shapes.Schema.{Schema}
 use Rattle.sql_base.specs.declared.values.Value.{Value}
@@ -19,6 +17,7 @@ use Rattle.mig_lens.specs.Laws.{IsSchema, Joins}
 use Rattle.mig_lens.specs.Layout.{has_mark}
 use Rattle.mig_lens.specs.Plan.{Table, table_numbered}
 use Rattle.row_rules.specs.declared.kinds.Kept.{Kept}
+pub use Rattle.row_rules.specs.Rows.{Ascends}
 use Rattle.machine.specs.declared.states.Mode.{Mode}
 use Rattle.machine.specs.declared.states.Mode.TheVariants.{Calm, Both}
 use Rattle.machine.specs.declared.states.State.{State}
@@ -28,12 +27,6 @@ use Rattle.machine.specs.Statement.{max_rows}
 use Rattle.machine.specs.Migrate.{numbers_of}
 
 -- ---- rows
-
--- The keys of these rows ascend strictly.
-abbrev pub Ascends : List Kept → Type 0
-Ascends [] = Unit {0}
-Ascends (row ∷ []) = Unit {0}
-Ascends (row ∷ next ∷ rows) = (int_cmp row.key next.key ≡ Less) × Ascends (next ∷ rows)
 
 -- A half is there exactly where its side has the table; it fits the shape, and has the row's key in the key's place.
 abbrev pub HalfStands : Option Table → ℤ → Option (List Value) → Type 0

@@ -116,8 +116,8 @@ fn value_at(values: &[Value], at: usize) -> Option<&Value>
     values.get(at)
 }
 
-// The weight of the values of a half that its lens doesn't carry.
-fn lost_weight(cells: &[Cell], values: &[Value]) -> Result<u64, NoMemory>
+/// The weight of the values of a half that its lens doesn't carry. An error is want of memory.
+pub fn lost_weight(cells: &[Cell], values: &[Value]) -> Result<u64, NoMemory>
     ensures { IfOk result (λ weight. weight ≡ spec.lost_weight cells.now values.now) }
 {
     let mut total: u64 = 0;

@@ -1,5 +1,6 @@
 //! Parts of the plain step that look at no stored row, or at rows that they are given: for what computes the step over rows
 //! that it keeps otherwise.
+pub use crate::complete::lost_weight;
 pub use crate::fill::{MAX_BATCH, may_not_fill};
 pub use crate::refusals::{not_valid, refused_batch, steps_left};
 pub use crate::replies::{

@@ -1,22 +1,14 @@
 -- The rows that a job puts: their keys, their lost weights, and that both halves are there where both versions have the table.
-use Rattle.roll_core.proofs.Words.{◌≡◌, ◌∙◌, ℕ, ℤ, List, [], ◌∷◌, true, false, Option, Some, None, Result, Ok, is_some, if◌then◌else◌, map, ap, refl, sym, subst, Each, filter_map, option_map_or}
-use Rattle.roll_core.proofs.Words.{and_then_ok, ok_same, and_then, every, Value, sound, wrong, value_cause, altered, altered_halves, altered_row, changes, filled_row, matching, new_row, passes}
-use Rattle.roll_core.proofs.Words.{remade, row_passed, map_fault, Beside, Site, half, half_beside, halves_on, key_of, other, other_half, shape_of, shown, touched, touched_by, Expr, New, Old, Side}
-use Rattle.roll_core.proofs.Words.{Cause, Change, Put, Remove, Halves, Job, Kept, OfPut}
+use Rattle.roll_core.proofs.Words.{◌≡◌, ◌∙◌, ℕ, ℤ, List, true, Option, Some, None, Ok, is_some, ap, refl, sym, subst, Each, option_map_or}
+use Rattle.roll_core.proofs.Words.{and_then_ok, ok_same, and_then, Value, sound, wrong, value_cause, altered, altered_halves, altered_row, changes, filled_row}
+use Rattle.roll_core.proofs.Words.{remade, map_fault, Beside, Site, half, half_beside, halves_on, key_of, other, other_half, shape_of, touched, touched_by, Expr, New, Old, Side}
+use Rattle.roll_core.proofs.Words.{Change, Put, Remove, Halves, Job, Kept, OfPut}
 use Rattle.roll_core.proofs.Words.job
-use Rattle.row_rules.specs.Changes.{put_all}
+use Rattle.row_rules.specs.Made.{changes_made}
 use Rattle.roll_core.proofs.Outcomes.{map_fault_ok, without_ok}
-use Rattle.roll_core.proofs.Tables.{each_all, each_mapped}
+use Rattle.roll_core.proofs.Tables.{each_all}
 
--- ---- outcomes
-
--- What holds of each value that is made of what something holds of.
-every_made : {X Y E : Type 0} (f : X → Result Y E) (P : X → Type 0) (Q : Y → Type 0) → ((x : X) (y : Y) → P x → f x ≡ Ok y → Q y) → (xs : List X) (ys : List Y) → Each P xs → every (map f xs) ≡ Ok ys → Each Q ys
-every_made f P Q h [] ys p e = subst (Each Q) (ok_same [] ys e) tt
-every_made f P Q h (x ∷ xs) ys p e =
-    let first = and_then_ok (f x) (λ y. and_then (every (map f xs)) (λ ys. Ok (y ∷ ys))) ys e in
-    let rest = and_then_ok (every (map f xs)) (λ ys. Ok (first.0 ∷ ys)) ys first.2 in
-    subst (Each Q) (ok_same (first.0 ∷ rest.0) ys rest.2) (h x first.0 p.0 first.1, every_made f P Q h xs rest.0 p.1 rest.1)
+-- ---- puts
 
 pub of_put : {P Q : Kept → Type 0} → ((row : Kept) → P row → Q row) → (change : Change) → OfPut P change → OfPut Q change
 of_put h (Put row) p = h row p
@@ -71,28 +63,6 @@ filled_is site side row made h =
     let there = touched_there site.there row.halves.old row.halves.new step.0 (ap (λ side. touched_by site.there side row.halves) (sym side) ∙ begun) in
     subst (Remade site row.key row.lost) same (record { is_key = refl; is_lost = refl; has_new = there })
 
--- ---- rows that pass
-
-abbrev IfThere : (Kept → Type 0) → Option Kept → Type 0
-IfThere P None = Unit {0}
-IfThere P (Some row) = P row
-
-passed_there : (P : Kept → Type 0) (site : Site) (condition : Option Expr) (row : Kept) (o : Option Kept) → P row → row_passed site condition row ≡ Ok o → IfThere P o
-passed_there P site condition row o p h =
-    let step = and_then_ok (map_fault (value_cause row.key) (passes (shape_of site.here) condition (shown site row.halves))) (λ passed. Ok (if passed then Some row else None)) o h in
-    subst (IfThere P) (ok_same (if step.0 then Some row else None) o step.2) (elim step.0 as (λ b. IfThere P (if b then Some row else None)) [ true ↦ p | false ↦ tt ])
-
-all_there : (P : Kept → Type 0) (found : List (Option Kept)) → Each (IfThere P) found → Each P (filter_map (λ row. row) found)
-all_there P [] h = tt
-all_there P (None ∷ found) h = all_there P found h.1
-all_there P (Some row ∷ found) h = (h.0, all_there P found h.1)
-
-matching_each : (P : Kept → Type 0) (site : Site) (condition : Option Expr) (rows passed : List Kept) → Each P rows → matching site condition rows ≡ Ok passed → Each P passed
-matching_each P site condition rows passed p h =
-    let step = and_then_ok (every (map (row_passed site condition) rows)) (λ passed. Ok (filter_map (λ row. row) passed)) passed h in
-    let there = every_made (row_passed site condition) P (IfThere P) (passed_there P site condition) rows step.0 p step.1 in
-    subst (Each P) (ok_same (filter_map (λ row. row) step.0) passed step.2) (all_there P step.0 there)
-
 -- ---- the changes of a job
 
 -- A batch is written through the new version.
@@ -115,23 +85,16 @@ pub record Placed (P : ℤ → ℕ → Type 0) (site : Site) (row : Kept) : Type
 placed : (P : ℤ → ℕ → Type 0) (site : Site) (key : ℤ) (lost : ℕ) (row : Kept) → P key lost → Remade site key lost row → Placed P site row
 placed P site key lost row p r = record { weighs = subst (λ k. P k row.lost) (sym r.is_key) (subst (P key) (sym r.is_lost) p); has_new = r.has_new }
 
-put_made : (Q : Kept → Type 0) (r : Result (List Kept) Cause) (all : List Change) → ((rows : List Kept) → r ≡ Ok rows → Each Q rows) → put_all r ≡ Ok all → Each (OfPut Q) all
-put_made Q r all h e =
-    let step = and_then_ok r (λ rows. Ok (map Put rows)) all e in
-    subst (Each (OfPut Q)) (ok_same (map Put step.0) all step.2) (each_mapped Put _ (λ row q. q) step.0 (h step.0 step.1))
-
 pub changes_placed : (P : ℤ → ℕ → Type 0) (site : Site) (what : Job) (older : List Kept) (all : List Change) → SideOf site what → PutBy P site what older → changes site what older ≡ Ok all → Each (OfPut (Placed P site)) all
 changes_placed P site (job.Put rows) older all side kept h =
-    put_made (Placed P site) (every (map (new_row site) rows)) all
-    (λ new e. every_made (new_row site) (λ values. Unit {0}) (Placed P site) (λ values row u m. placed P site (key_of (shape_of site.here) values) site.lost row (kept (key_of (shape_of site.here) values)) (remade_is site (key_of (shape_of site.here) values) site.lost None values row m)) rows new (each_all (λ values. tt) rows) e) h
+    changes_made (λ row. Unit {0}) (Placed P site) site (job.Put rows) older all
+    (each_all (λ values row m. let key = key_of (shape_of site.here) values in placed P site key site.lost row (kept key) (remade_is site key site.lost None values row m)) rows)
+    (each_all (λ row. tt) older) h
 changes_placed P site (job.Alter sets condition) older all side kept h =
-    put_made (Placed P site) (and_then (matching site condition older) (λ rows. every (map (altered_row site sets) rows))) all
-    (λ new e.
-    let step = and_then_ok (matching site condition older) (λ rows. every (map (altered_row site sets) rows)) new e in
-    every_made (altered_row site sets) (λ row. P row.key row.lost) (Placed P site) (λ row made p m. placed P site row.key row.lost made p (altered_is site sets row made m)) step.0 new (matching_each (λ row. P row.key row.lost) site condition older step.0 kept step.1) step.2) h
+    changes_made (λ row. P row.key row.lost) (Placed P site) site (job.Alter sets condition) older all
+    (λ row made p m. placed P site row.key row.lost made p (altered_is site sets row made m)) kept h
 changes_placed P site (job.Remove condition) older all side kept h =
-    let step = and_then_ok (matching site condition older) (λ rows. Ok (map (λ row. Remove row.key) rows)) all h in
-    subst (Each (OfPut (Placed P site))) (ok_same (map (λ (row : Kept). Remove row.key) step.0) all step.2) (each_mapped (λ (row : Kept). Remove row.key) _ (λ row u. u) step.0 (each_all {P = λ row. Unit {0}} (λ row. tt) step.0))
+    changes_made (λ row. Unit {0}) (Placed P site) site (job.Remove condition) older all tt (each_all (λ row. tt) older) h
 changes_placed P site job.Fill older all side kept h =
-    put_made (Placed P site) (every (map (filled_row site) older)) all
-    (λ new e. every_made (filled_row site) (λ row. P row.key row.lost) (Placed P site) (λ row made p m. placed P site row.key row.lost made p (filled_is site side row made m)) older new kept e) h
+    changes_made (λ row. P row.key row.lost) (Placed P site) site job.Fill older all
+    (λ row made p m. placed P site row.key row.lost made p (filled_is site side row made m)) kept h

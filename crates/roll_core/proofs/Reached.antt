@@ -1,7 +1,7 @@
 -- The rows that a statement looks at: they show their keys, and the row of one key is found by it.
 use Rattle.roll_core.proofs.Words.{ℕ, arith, ◌≡◌, ◌∙◌, ℤ, List, [], ◌∷◌, true, false, Option, Some, None, cond, option_map, int_cmp, int_eq, map, ap, refl, sym, subst, Decides-int_eq, int_eq_equiv}
 use Rattle.roll_core.proofs.Words.{eq_by_cmp, T, is_sorted, below_all, is_lt, Value, Job, Kept, Site, Beside, Table, Side, Old, New, State, BesideStands, HalfStands, NewStands, Rows, AltersWithin}
-use Rattle.roll_core.proofs.Words.{HasHalf, KeysAscend, ReachesOne, RemovesWithin, ShowKeys, SideStands, row_alone, row_of, rows_reached, changes, number_of, shape_of, may_miss_beside, table_by}
+use Rattle.roll_core.proofs.Words.{Ascends, HasHalf, ReachesOne, RemovesWithin, ShowKeys, SideStands, row_alone, row_of, rows_reached, changes, number_of, shape_of, may_miss_beside, table_by}
 use Rattle.roll_core.proofs.Words.{new_table_by, has_mark, site_of, Below, Form, IsSite, Runs, StoredRow, StoredTable, job_reach, kept, meant, rows_meant}
 use Rattle.roll_core.proofs.Words.finite
 use Rattle.roll_core.proofs.Words.job
@@ -25,7 +25,7 @@ row_found form key (row ∷ rows) =
       | false ↦ λ e. row_found form key rows
     ] refl
 
-keys_ascend : (form : Form) (rows : List StoredRow) → T (is_sorted int_cmp rows) → KeysAscend (map (kept form) rows)
+keys_ascend : (form : Form) (rows : List StoredRow) → T (is_sorted int_cmp rows) → Ascends (map (kept form) rows)
 keys_ascend form [] s = tt
 keys_ascend form (row ∷ []) s = tt
 keys_ascend form (row ∷ next ∷ rows) s =

@@ -41,7 +41,7 @@ pub use Rattle.phase_steps.specs.Rows.{left_row, left_value, trimmed}
 pub use Rattle.row_rules.specs.Accept.{clashes, has_key, is_taken, key_cause, keys_of, sound, times, total_weight, wrong}
 pub use Rattle.row_rules.specs.Causes.{heavy_statement, max_reply, max_total, row_error, taken_key, value_cause}
 pub use Rattle.row_rules.specs.Changes.{after_change, after_changes, altered, altered_halves, altered_row, cause_together, changes, filled_row, keys_changed, matching, new_keys_cause, new_row, passes, put_all as put_each, put_row, refused_together, remade, row_passed, rows_put}
-pub use Rattle.row_rules.specs.InReach.{AltersWithin, HasHalf, KeysAscend, ReachesOne, RemovesWithin, ShowKeys, SideStands}
+pub use Rattle.row_rules.specs.InReach.{AltersWithin, HasHalf, ReachesOne, RemovesWithin, ShowKeys, SideStands}
 pub use Rattle.row_rules.specs.Outcome.{Answers}
 pub use Rattle.row_rules.specs.Reach.{row_alone, row_of, rows_reached}
 pub use Rattle.row_rules.specs.Rows.{missing_keys as keys_missing, rows_at}

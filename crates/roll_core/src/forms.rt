@@ -1,13 +1,12 @@
 //! The forms in which the rows of a table are stored, and the halves that a stored row has.
 ghost use Rattle.std.specs.Prelude.{◌≡◌, IfOk, None, Some, is_none};
-ghost use Rattle.machine.specs.Migrate as migrate;
 ghost use Rattle.trigger_pair.specs.Stored as stored;
 ghost use Rattle.roll_core.specs.Store as spec;
 
-use mig_lens::Cell;
+use machine::parts::lost_weight;
 use phase_steps::{left_row, trimmed, trimmed_view};
 use row_rules::Halves;
-use sql_base::{Copying, List, NoMemory, Value, value_weight};
+use sql_base::{Copying, List, NoMemory, Value};
 use std::alloc::Global;
 use trigger_pair::{Pair, is_marked, new_view, old_view};
 
@@ -90,29 +89,6 @@ pub fn is_unfilled(form: &Form, values: &[Value]) -> bool
         Form::Left(_) => true,
         Form::Trimmed(_) => true,
     }
-}
-
-fn lost_value(cell: &Cell, value: &Value) -> u64
-    ensures { result ≡ migrate.lost_value (cell.now, value.now) }
-{
-    match cell {
-        Cell::Carry(_) => 0,
-        Cell::Make(_) | Cell::Still(_) => value_weight(value),
-    }
-}
-
-// The weight of the values that aren't carried. (An error is a weight that no row can have that is held in memory.)
-fn lost_weight(cells: &[Cell], values: &[Value]) -> Result<u64, NoMemory>
-    ensures { IfOk result (λ weight. weight ≡ migrate.lost_weight cells.now values.now) }
-{
-    let mut weight: u64 = 0;
-    for (at, cell) in cells.iter().enumerate() {
-        let Some(value) = values.get(at) else {
-            break;
-        };
-        weight = weight.checked_add(lost_value(cell, value)).ok_or(NoMemory)?;
-    }
-    Ok(weight)
 }
 
 /// The lost weight of a row that is stored in a form. An error is want of memory.

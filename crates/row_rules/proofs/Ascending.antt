@@ -4,7 +4,7 @@ use Rattle.std.specs.List.{filter}
 use Rattle.std.specs.Ordering.{match_ordering, ordering_reverse}
 use Rattle.std.proofs.lemmas.Cmp.{int_cmp_total, int_ranked}
 use Rattle.row_rules.specs.Changes.{after_change, after_changes, put_row}
-use Rattle.row_rules.specs.Laws.{Ascends}
+use Rattle.row_rules.specs.Rows.{Ascends}
 use Rattle.row_rules.specs.Words.{Change, Kept, Put, Remove}
 
 -- ---- keys in order

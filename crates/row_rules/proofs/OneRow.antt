@@ -3,7 +3,8 @@ use Rattle.std.proofs.Common.{◌≡◌, ◌∙◌, ℤ, List, [], ◌∷◌, Bo
 use Rattle.std.proofs.lemmas.Cmp.{int_cmp_total}
 use Rattle.std.specs.Ordering.{int_cmp, int_eq, is_eq, ordering_reverse}
 use Rattle.std.proofs.lemmas.Bool.Decides.{Decides-int_eq}
-use Rattle.row_rules.specs.InReach.{KeysAscend, ReachesOne}
+use Rattle.row_rules.specs.InReach.{ReachesOne}
+use Rattle.row_rules.specs.Rows.{Ascends}
 use Rattle.row_rules.specs.Reach.{row_alone, row_of}
 use Rattle.row_rules.specs.Rows.{rows_at}
 use Rattle.row_rules.specs.Words.{Kept}
@@ -13,11 +14,11 @@ abbrev Above : ℤ → List Kept → Type 0
 Above key [] = Unit {0}
 Above key (row ∷ rows) = int_cmp key row.key ≡ Less
 
-above_first : (row : Kept) (rows : List Kept) → KeysAscend (row ∷ rows) → Above row.key rows
+above_first : (row : Kept) (rows : List Kept) → Ascends (row ∷ rows) → Above row.key rows
 above_first row [] h = tt
 above_first row (next ∷ rows) h = h.0
 
-ascend_after : (row : Kept) (rows : List Kept) → KeysAscend (row ∷ rows) → KeysAscend rows
+ascend_after : (row : Kept) (rows : List Kept) → Ascends (row ∷ rows) → Ascends rows
 ascend_after row [] h = tt
 ascend_after row (next ∷ rows) h = h.1
 
@@ -25,7 +26,7 @@ above_less : (key other : ℤ) (rows : List Kept) → int_cmp key other ≡ Less
 above_less key other [] h a = tt
 above_less key other (row ∷ rows) h a = int_cmp_total.trans key other row.key h a
 
-none_above : (key : ℤ) (rows : List Kept) → Above key rows → KeysAscend rows → rows_at (key ∷ []) rows ≡ []
+none_above : (key : ℤ) (rows : List Kept) → Above key rows → Ascends rows → rows_at (key ∷ []) rows ≡ []
 none_above key [] a h = refl
 none_above key (row ∷ rows) a h =
     let differ : int_eq row.key key ≡ false = ap is_eq (int_cmp_total.antisymm row.key key ∙ ap ordering_reverse a) in

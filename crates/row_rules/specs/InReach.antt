@@ -1,11 +1,10 @@
 -- That a statement looks at no row but those of its reach: of a row of another key its WHERE is false, and never a fault.
-use Rattle.std.specs.Prelude.{◌≡◌, ℕ, ℤ, true, List, [], ◌∷◌, slice_index_or, Option, Some, None}
+use Rattle.std.specs.Prelude.{◌≡◌, ℕ, ℤ, true, List, slice_index_or, Option, Some, None}
 use Rattle.std.specs.List.{AllByRecursion}
-use Rattle.std.specs.Ordering.{int_cmp}
-use Rattle.std.specs.declared.cmp.Ordering.TheVariants.{Less}
 use Rattle.sql_base.specs.Fit.{row_fits}
 use Rattle.mig_lens.specs.Lens.{carries}
 use Rattle.row_rules.specs.Changes.{changes, matching}
+use Rattle.row_rules.specs.Rows.{Ascends}
 use Rattle.row_rules.specs.Reach.{reach, row_alone, row_of, rows_reached}
 use Rattle.row_rules.specs.Show.{rows_shown}
 use Rattle.row_rules.specs.Site.{Beside, Site, key_of, shape_of, shown}
@@ -85,12 +84,6 @@ ShowsWithin = (site : Site) (items : Items) (condition : Option Expr) (room : �
 
 -- ---- the one row
 
--- The keys of these rows ascend strictly.
-abbrev pub KeysAscend : List Kept → Type 0
-KeysAscend [] = Unit {0}
-KeysAscend (row ∷ []) = Unit {0}
-KeysAscend (row ∷ next ∷ rows) = (int_cmp row.key next.key ≡ Less) × KeysAscend (next ∷ rows)
-
 -- Of rows whose keys ascend the key reaches one row or none.
 abbrev pub ReachesOne : Type 0
-ReachesOne = (key : ℤ) (rows : List Kept) → KeysAscend rows → rows_reached (Some key) rows ≡ row_alone (row_of key rows)
+ReachesOne = (key : ℤ) (rows : List Kept) → Ascends rows → rows_reached (Some key) rows ≡ row_alone (row_of key rows)

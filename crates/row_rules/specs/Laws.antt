@@ -1,16 +1,9 @@
 -- What holds of changes and of what rows show, whatever the rows are.
-use Rattle.std.specs.Prelude.{◌≡◌, List, [], ◌∷◌}
-use Rattle.std.specs.Ordering.{int_cmp}
-use Rattle.std.specs.declared.cmp.Ordering.TheVariants.{Less}
+use Rattle.std.specs.Prelude.{◌≡◌, List}
 use Rattle.row_rules.specs.Changes.{after_changes}
+use Rattle.row_rules.specs.Rows.{Ascends}
 use Rattle.row_rules.specs.Site.{Site, shown}
 use Rattle.row_rules.specs.Words.{Change, Halves, Kept, Old}
-
--- The keys of these rows ascend strictly.
-abbrev pub Ascends : List Kept → Type 0
-Ascends [] = Unit {0}
-Ascends (row ∷ []) = Unit {0}
-Ascends (row ∷ next ∷ rows) = (int_cmp row.key next.key ≡ Less) × Ascends (next ∷ rows)
 
 -- Changes keep rows in order.
 abbrev pub ChangesKeepOrder : Type 0

@@ -5,6 +5,7 @@ pub mod Forms
 pub mod InReach
 pub mod Inner
 pub mod Laws
+pub mod Made
 pub mod Outcome
 pub mod Reach
 pub mod Rows

@@ -1,10 +1,17 @@
--- Rows whose new half is missing.
-use Rattle.std.specs.Prelude.{ℤ, pos, List, [], ◌∷◌, Option, Some, None, map, unwrap_or}
+-- Rows in order, and rows whose new half is missing.
+use Rattle.std.specs.Prelude.{◌≡◌, ℤ, pos, List, [], ◌∷◌, Option, Some, None, map, unwrap_or}
 use Rattle.std.specs.List.{filter, list_any}
 use Rattle.std.specs.Int.{int_max}
-use Rattle.std.specs.Ordering.{int_eq}
+use Rattle.std.specs.Ordering.{int_cmp, int_eq}
+use Rattle.std.specs.declared.cmp.Ordering.TheVariants.{Less}
 use Rattle.row_rules.specs.Site.{is_missing}
 use Rattle.row_rules.specs.Words.{Kept, least}
+
+-- The keys of these rows ascend strictly.
+abbrev pub Ascends : List Kept → Type 0
+Ascends [] = Unit {0}
+Ascends (row ∷ []) = Unit {0}
+Ascends (row ∷ next ∷ rows) = (int_cmp row.key next.key ≡ Less) × Ascends (next ∷ rows)
 
 -- The keys of the rows that are still to be filled, in their order.
 abbrev pub missing_keys : List Kept → List ℤ

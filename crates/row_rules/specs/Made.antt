@@ -1,23 +1,32 @@
--- What holds of each row that a job makes holds of each row that its changes put.
-use Rattle.std.proofs.Common.{◌≡◌, List, [], ◌∷◌, Bool, true, false, Option, Some, None, Result, Ok, map, subst, if◌then◌else◌}
+-- What holds of the rows that a job makes holds of those that its changes put, whatever it is that holds of them.
+use Rattle.std.specs.Prelude.{◌≡◌, List, [], ◌∷◌, Bool, true, false, Option, Some, None, Result, Ok, map, if◌then◌else◌}
 use Rattle.std.specs.List.{AllByRecursion as Each, filter_map}
+use Rattle.std.proofs.Common.{subst}
 use Rattle.sql_base.specs.Laws.{and_then_ok, ok_same}
-use Rattle.sql_base.specs.Outcome.{and_then, every}
-use Rattle.row_rules.specs.declared.kinds.Change.TheVariants.{Put, Remove}
 use Rattle.row_rules.specs.Causes.{value_cause}
 use Rattle.row_rules.specs.Changes.{altered_row, changes, filled_row, matching, new_row, passes, put_all, row_passed}
 use Rattle.row_rules.specs.Outcome.{map_fault}
 use Rattle.row_rules.specs.Site.{Site, shape_of, shown}
-use Rattle.machine.specs.Sites.{OfPut}
-use Rattle.machine.specs.Words.{Cause, Change, Expr, Job, Kept}
-use Rattle.machine.specs.Words.job
-use Rattle.machine.proofs.Accepting.{every_made}
-use Rattle.machine.proofs.Moving.{map_each}
+use Rattle.row_rules.specs.Words.{Cause, Change, Expr, Job, Kept, Put, Remove, and_then, every}
+use Rattle.row_rules.specs.Words.job
+
+-- It holds of the row, where one is put.
+abbrev pub OfPut : (Kept → Type 0) → Change → Type 0
+OfPut Holds (Put row) = Holds row
+OfPut Holds (Remove key) = Unit {0}
+
+-- What holds of each value that is made of what something holds of.
+pub every_made : {X Y E : Type 0} (f : X → Result Y E) (P : X → Type 0) (Q : Y → Type 0) → ((x : X) (y : Y) → P x → f x ≡ Ok y → Q y) → (xs : List X) (ys : List Y) → Each P xs → every (map f xs) ≡ Ok ys → Each Q ys
+every_made f P Q h [] ys p e = subst (Each Q) (ok_same [] ys e) tt
+every_made f P Q h (x ∷ xs) ys p e =
+    let first = and_then_ok (f x) (λ y. and_then (every (map f xs)) (λ ys. Ok (y ∷ ys))) ys e in
+    let rest = and_then_ok (every (map f xs)) (λ ys. Ok (first.0 ∷ ys)) ys first.2 in
+    subst (Each Q) (ok_same (first.0 ∷ rest.0) ys rest.2) (h x first.0 p.0 first.1, every_made f P Q h xs rest.0 p.1 rest.1)
 
 -- ---- rows that pass
 
 -- It holds of a row, where there is one.
-abbrev IfThere : (Kept → Type 0) → Option Kept → Type 0
+abbrev pub IfThere : (Kept → Type 0) → Option Kept → Type 0
 IfThere P None = Unit {0}
 IfThere P (Some row) = P row
 
@@ -52,10 +61,14 @@ Makes Before After site (job.Remove condition) = Unit {0}
 Makes Before After site job.Fill = (row made : Kept) → Before row → filled_row site row ≡ Ok made → After made
 
 module _ (Before After : Kept → Type 0) (site : Site) where
+  puts_each : (rows : List Kept) → Each After rows → Each (OfPut After) (map Put rows)
+  puts_each [] h = tt
+  puts_each (row ∷ rows) h = (h.0, puts_each rows h.1)
+
   all_put : (r : Result (List Kept) Cause) (all : List Change) → ((rows : List Kept) → r ≡ Ok rows → Each After rows) → put_all r ≡ Ok all → Each (OfPut After) all
   all_put r all h e =
       let step = and_then_ok r (λ rows. Ok (map Put rows)) all e in
-      subst (Each (OfPut After)) (ok_same (map Put step.0) all step.2) (map_each Put (OfPut After) step.0 (h step.0 step.1))
+      subst (Each (OfPut After)) (ok_same (map Put step.0) all step.2) (puts_each step.0 (h step.0 step.1))
 
   all_removed : (rows : List Kept) → Each (OfPut After) (map (λ row. Remove row.key) rows)
   all_removed [] = tt
