@@ -1,6 +1,6 @@
 //! Replies as text, as the program is to write them.
 use machine::Reply;
-use mig_lens::Refusal;
+use mig_lens::{Member, Place, Refusal};
 use sql_base::{Code, List, Name, NoMemory, Value};
 use std::alloc::Global;
 
@@ -58,6 +58,7 @@ fn code_word(code: Code) -> &'static str {
         Code::C42804 => "42804",
         Code::C42P01 => "42P01",
         Code::C54000 => "54000",
+        Code::C23514 => "23514",
         _ => "another code",
     }
 }
@@ -123,6 +124,21 @@ fn push_backfill(
     push(out, "\n")
 }
 
+fn push_place(alloc: Global, out: &mut Vec<u8>, what: &str, place: Place) -> Result<(), NoMemory> {
+    let member = match place.member {
+        Member::Up => "up",
+        Member::Down => "down",
+        Member::Check => "check",
+        Member::Default => "default",
+        Member::TypeName => "type",
+    };
+    let at = place.operation;
+    push(
+        out,
+        format!(in alloc; "{what} operations[{at}].{member}\n")?.as_str(),
+    )
+}
+
 fn push_refusal(alloc: Global, out: &mut Vec<u8>, refusal: &Refusal) -> Result<(), NoMemory> {
     match refusal {
         Refusal::AlreadyActive(name) => push_name(out, "REFUSED P1 ", name),
@@ -132,6 +148,14 @@ fn push_refusal(alloc: Global, out: &mut Vec<u8>, refusal: &Refusal) -> Result<(
         Refusal::NameTaken(name) => push_name(out, "REFUSED P6 ", name),
         Refusal::NoSuchTable(name) => push_name(out, "REFUSED P7 ", name),
         Refusal::Exists(name) => push_name(out, "REFUSED P9 ", name),
+        Refusal::NotValid(constraint, key) => push_two(alloc, out, "REFUSED P5 ", constraint, *key),
+        Refusal::KeyColumn(table) => push_name(out, "REFUSED P10 ", table),
+        Refusal::UpNeeded(table, column) => {
+            push(out, "REFUSED P12 ")?;
+            push(out, word(table))?;
+            push_name(out, " ", column)
+        }
+        Refusal::BadType(place) => push_place(alloc, out, "REFUSED P15", *place),
         Refusal::BadJson(path) => push_name(out, "REFUSED P16 ", path),
         Refusal::BackfillRefused(table, key, code) => {
             push_backfill(alloc, out, table, *key, *code)

@@ -33,7 +33,7 @@ pub fn line_of(line: &str) -> Line<'_> {
 
 /// The scripts, each with what it is answered. `\default` and `\made` start a migration that adds to users the column age,
 /// which takes no NULL, with this default, or with this `up`.
-pub const SCRIPTS: [(&str, &str); 18] = [
+pub const SCRIPTS: [(&str, &str); 20] = [
     (
         "\
 INSERT INTO users (id, name) VALUES (1, 'a')
@@ -443,6 +443,73 @@ SELECT
   1|a|7
   2|b|7
   3|c|9
+",
+    ),
+    (
+        "\
+INSERT INTO users (id, name) VALUES (1, 'a'), (2, 'b')
+\\start {\"name\":\"02_code\",\"operations\":[{\"add_column\":{\"table\":\"users\",\"column\":{\"name\":\"code\",\"type\":\"bigint\",\"default\":\"7\",\"unique\":true}}}]}
+\\complete
+SET search_path TO public_02_code
+UPDATE users SET code = 9 WHERE id = 2
+SET search_path TO public_01_users
+UPDATE users SET name = 'c' WHERE id = 2
+INSERT INTO users (id, name) VALUES (3, 'd')
+SET search_path TO public_02_code
+SELECT * FROM users
+INSERT INTO users (id, name, code) VALUES (4, 'e', 9)
+\\complete
+\\complete
+\\complete
+",
+        "\
+INSERT 0 2
+START public_02_code
+REFUSED P5 users_code_key 1
+SET
+UPDATE 1
+SET
+UPDATE 1
+ERROR 23505 users_code_key 3
+SET
+SELECT
+  1|a|7
+  2|c|9
+ERROR 23505 users_code_key 4
+COMPLETE 1
+COMPLETE 2
+COMPLETE 3
+",
+    ),
+    (
+        "\
+INSERT INTO users (id, name) VALUES (1, 'a')
+\\start {\"name\":\"02_age\",\"operations\":[{\"add_column\":{\"table\":\"users\",\"column\":{\"name\":\"age\",\"type\":\"bigint\",\"pk\":true}}}]}
+\\start {\"name\":\"02_age\",\"operations\":[{\"add_column\":{\"table\":\"users\",\"column\":{\"name\":\"age\",\"type\":\"bigint\"}}}]}
+\\start {\"name\":\"02_age\",\"operations\":[{\"add_column\":{\"table\":\"users\",\"column\":{\"name\":\"age\",\"type\":\"bigint\",\"default\":\"'x'\"}}}]}
+\\start {\"name\":\"02_age\",\"operations\":[{\"add_column\":{\"table\":\"users\",\"column\":{\"name\":\"age\",\"type\":\"bigint\",\"nullable\":true}}},{\"drop_table\":{\"name\":\"users\"}}]}
+\\start {\"name\":\"02_age\",\"operations\":[{\"add_column\":{\"table\":\"users\",\"column\":{\"name\":\"age\",\"type\":\"bigint\",\"default\":\"0\",\"check\":{\"name\":\"age_pos\",\"constraint\":\"age > 0\"}}}}]}
+INSERT INTO users (id, name) VALUES (2, 'b')
+\\complete
+SET search_path TO public_02_age
+UPDATE users SET age = 5
+\\complete
+SELECT * FROM users
+",
+        "\
+INSERT 0 1
+REFUSED P10 users
+REFUSED P12 users age
+REFUSED P15 operations[0].default
+REFUSED P16 operations[1]
+START public_02_age
+ERROR 23514 age_pos 2
+REFUSED P5 age_pos 1
+SET
+UPDATE 1
+COMPLETE 1
+SELECT
+  1|a|5
 ",
     ),
     ("\n", ""),
