@@ -1,0 +1,13 @@
+//! Which versions stand, how a statement's path finds a table in them, and where a version's view finds its columns in
+//! the stored rows.
+#![tactic(auto)]
+
+mod catalogs;
+mod finding;
+mod pairs;
+mod places;
+mod versions;
+mod viewing;
+
+pub use catalogs::Catalog;
+pub use versions::{Known, Stage, View};
