@@ -4,6 +4,7 @@
 
 mod catalogs;
 mod finding;
+pub mod laws;
 mod pairs;
 mod places;
 mod versions;
