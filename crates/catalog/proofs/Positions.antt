@@ -1,26 +1,43 @@
 -- How many places a stored row has, and where they stand.
-use Rattle.std.proofs.Common.{◌≡◌, ◌∙◌, ◌<◌, ◌≤◌, ℕ, zero, suc, ◌+◌, ◌^◌, List, [], ◌∷◌, ◌++◌, Bool, true, false, Some, Option, length, map, cond, drop, get_or, add-one, append_assoc, length-append, ap, refl, sym, arith}
-use Rattle.std.specs.Prelude.{filter}
-use Rattle.std.specs.Option.{option_map}
-use Rattle.std.specs.List.{enumerate_from}
+use Rattle.std.proofs.Common.{◌≡◌, ◌∙◌, ◌<◌, ◌≤◌, ℕ, zero, suc, ◌+◌, ◌^◌, List, [], ◌∷◌, ◌++◌, Bool, true, false, Some, None, Option, subst, length, map, cond, drop, get_or, add-one, append_assoc, length-append, ap, refl, sym, arith}
+use Rattle.std.specs.Prelude.{◌==◌, ◌&&◌, filter, find}
+use Rattle.std.specs.Option.{option_and_then, option_map, option_map_or}
+use Rattle.std.specs.List.{enumerate_from, list_all}
 use Rattle.std.proofs.Math.Seq.{drop-cons}
 use Rattle.std.proofs.lemmas.List.{length-map}
 use Rattle.std.proofs.lemmas.List.FromFn.{length-enumerate_from}
 use Rattle.mig_lens.specs.declared.columns.Cell.{Cell}
 use Rattle.mig_lens.specs.declared.columns.Cell.TheVariants.{Carry, Make, Still}
+use Rattle.mig_lens.specs.declared.columns.Lens.{Lens}
+use Rattle.mig_lens.specs.declared.columns.Side.{Side}
+use Rattle.mig_lens.specs.declared.columns.Side.TheVariants.{Old, New}
+use Rattle.mig_lens.specs.declared.plans.Fate.{Fate}
 use Rattle.mig_lens.specs.Lens.{is_carry}
-use Rattle.sql_eval.specs.Shape.{max_columns}
+use Rattle.mig_lens.specs.Plan.{lens_in, shape_numbered}
+use Rattle.sql_base.specs.declared.shapes.Schema.{Schema}
+use Rattle.sql_base.specs.declared.shapes.Shape.{Shape}
+use Rattle.std.proofs.lemmas.Bool.Decides.{nat_tests}
 use Rattle.trigger_pair.specs.declared.pairs.Pair.{Pair}
-use Rattle.trigger_pair.specs.Laws.{IsPair, PairsAreLong}
 use Rattle.phase_steps.specs.Places.{Place, Own, Shadow, carried_places, mark_places, old_places, paired_places, shadow_places, trimmed_row_places}
-use Rattle.phase_steps.specs.Rows.{is_shadow}
+use Rattle.phase_steps.specs.Rows.{is_shadow, pair_of}
 use Rattle.catalog.specs.declared.pairs.PairRef.{PairRef}
 use Rattle.catalog.specs.declared.versions.Known.{Known}
 use Rattle.catalog.specs.declared.versions.Stage.{Stage}
 use Rattle.catalog.specs.declared.versions.Stage.TheVariants.{Calm, Both, AfterFirst, AfterSecond, RolledBack}
-use Rattle.catalog.specs.Laws.{IsKnown}
 use Rattle.catalog.specs.Places as lent
-use Rattle.catalog.specs.Views.{pair_in, row_places}
+use Rattle.catalog.specs.Versions.{tables_on}
+use Rattle.catalog.specs.Views.{lens_among, pair_among, pair_at, pair_in, row_places}
+use Rattle.catalog.specs.Widths.{fate_is_narrow, fates_at, is_narrow, lens_is_narrow, table_is_narrow}
+
+-- ---- tests
+
+and_first : (a b : Bool) → (a && b) ≡ true → a ≡ true
+and_first true b both = refl
+and_first false b both = both
+
+and_last : (a b : Bool) → (a && b) ≡ true → b ≡ true
+and_last true b both = both
+and_last false b both = absurd (cc)
 
 -- ---- lengths
 
@@ -58,13 +75,6 @@ one_more f g made whole xs i d within so_far =
 abbrev Few : Pair → Type 0
 Few pair = (length pair.lens.old_cols ≤ 32) × (length pair.lens.new_cols ≤ 32)
 
-few_cells : PairsAreLong → (pair : Pair) → IsPair pair → Few pair
-few_cells long pair is =
-    let both = long pair is in
-    let old = is.old.few in
-    let new = is.new.few in
-    (omega (arith, both.0), omega (arith, both.1))
-
 paired_few : (pair : Pair) → Few pair → length (paired_places pair) ≤ 65
 paired_few pair few =
     simp length-append (omega (arith, few.0, few.1, old_long pair.lens.old_cols, shadows_short pair.lens.new_cols, mark_short pair.layout.mark))
@@ -80,7 +90,48 @@ row_few (AfterFirst lost fates) pair few = paired_few pair few
 row_few (AfterSecond lost fates) pair few = trimmed_few pair few
 row_few (RolledBack lost fates) pair few = paired_few pair few
 
--- A stored row of a pair that is known has few places.
-pub places_fit : PairsAreLong → (known : Known) → IsKnown known → (number : ℕ) (pair : PairRef) → Some (lent.pair pair) ≡ pair_in known number → length (row_places known.stage (lent.pair pair)) < 2 ^ 32
-places_fit long known is number pair found =
-    omega (arith, row_few known.stage (lent.pair pair) (few_cells long (lent.pair pair) (is.pairs number (lent.pair pair) (sym found))))
+-- ---- widths
+
+lens_few : (lens : Lens) → lens_is_narrow lens ≡ true → (length lens.old_cols ≤ 32) × (length lens.new_cols ≤ 32)
+lens_few lens narrow = (grind (arith, nat_tests), grind (arith, nat_tests))
+
+found_narrow : (here : Bool) (fate : ℕ × Fate) (rest : Option (ℕ × Fate)) (lens : Lens) → fate_is_narrow fate ≡ true → (option_and_then (λ f. lens_in f.1) rest ≡ Some lens → lens_is_narrow lens ≡ true) → option_and_then (λ f. lens_in f.1) (cond here (Some fate) rest) ≡ Some lens → lens_is_narrow lens ≡ true
+found_narrow true fate rest lens narrow later is = ap (λ found. option_map_or lens_is_narrow found true) (sym is) ∙ narrow
+found_narrow false fate rest lens narrow later is = later is
+
+lens_narrow : (fates : List (ℕ × Fate)) (number : ℕ) (lens : Lens) → list_all fate_is_narrow fates ≡ true → lens_among fates number ≡ Some lens → lens_is_narrow lens ≡ true
+lens_narrow [] number lens all is = cc
+lens_narrow (fate ∷ fates) number lens all is =
+    found_narrow (fate.0 == number) fate (find (λ f. f.0 == number) fates) lens (and_first _ _ all) (lens_narrow fates number lens (and_last _ _ all)) is
+
+of_shapes : (old new : Option Shape) (lens : Option Lens) (pair : Pair) → ((l : Lens) → lens ≡ Some l → lens_is_narrow l ≡ true) → option_and_then (λ o. option_and_then (λ n. option_map (λ l. pair_of o n l) lens) new) old ≡ Some pair → Few pair
+of_shapes None new lens pair narrow is = absurd (cc)
+of_shapes (Some o) None lens pair narrow is = absurd (cc)
+of_shapes (Some o) (Some n) None pair narrow is = absurd (cc)
+of_shapes (Some o) (Some n) (Some l) pair narrow is =
+    let same : pair_of o n l ≡ pair = cc in
+    subst Few same (lens_few l (narrow l refl))
+
+among_few : (before after : Schema) (fates : List (ℕ × Fate)) (number : ℕ) (pair : Pair) → list_all fate_is_narrow fates ≡ true → pair_among before after fates number ≡ Some pair → Few pair
+among_few before after fates number pair all is =
+    of_shapes (shape_numbered before number) (shape_numbered after number) (lens_among fates number) pair (λ lens found. lens_narrow fates number lens all found) is
+
+pair_few : (current : Schema) (stage : Stage) (number : ℕ) (pair : Pair) → list_all fate_is_narrow (fates_at stage) ≡ true → pair_at current stage number ≡ Some pair → Few pair
+pair_few current Calm number pair all is = absurd (cc)
+pair_few current (Both name schema fates) number pair all is = among_few current schema fates number pair all is
+pair_few current (AfterFirst lost fates) number pair all is = among_few lost current fates number pair all is
+pair_few current (AfterSecond lost fates) number pair all is = among_few lost current fates number pair all is
+pair_few current (RolledBack lost fates) number pair all is = among_few current lost fates number pair all is
+
+-- A stored row of a narrow pair has few places.
+pub places_fit : (known : Known) → is_narrow known ≡ true → (number : ℕ) (pair : PairRef) → Some (lent.pair pair) ≡ pair_in known number → length (row_places known.stage (lent.pair pair)) < 2 ^ 32
+places_fit known narrow number pair found =
+    let fates : list_all fate_is_narrow (fates_at known.stage) ≡ true = and_last _ _ narrow in
+    let few : length (row_places known.stage (lent.pair pair)) ≤ 65 =
+    row_few known.stage (lent.pair pair) (pair_few known.schema known.stage number (lent.pair pair) fates (sym found)) in
+    omega (arith, few)
+
+-- The tables of each side are narrow.
+pub tables_narrow : (known : Known) (side : Side) → is_narrow known ≡ true → list_all table_is_narrow (tables_on known side) ≡ true
+tables_narrow known Old narrow = and_first _ _ (and_first _ _ narrow)
+tables_narrow known New narrow = and_last _ _ (and_first _ _ narrow)

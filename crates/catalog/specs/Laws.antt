@@ -1,34 +1,18 @@
--- What the versions keep to that a catalog is made of, and what its views read of the stored rows.
-use Rattle.std.specs.Prelude.{◌≡◌, ◌≤◌, ◌<◌, ℕ, List, Some, length, map, slice_index_or}
+-- What stands where a view finds its columns.
+use Rattle.std.specs.Prelude.{◌≡◌, ◌<◌, ℕ, List, length, map, slice_index_or}
 use Rattle.std.specs.List.{AllByRecursion}
 use Rattle.sql_base.specs.declared.values.Value.{Value}
 use Rattle.sql_base.specs.declared.values.Value.TheVariants.{Null}
-use Rattle.sql_eval.specs.Shape.{max_columns}
 use Rattle.mig_lens.specs.declared.columns.Side.{Side}
 use Rattle.mig_lens.specs.declared.columns.Side.TheVariants.{Old, New}
-use Rattle.mig_lens.specs.Plan.{Table}
 use Rattle.trigger_pair.specs.declared.pairs.Pair.{Pair}
 use Rattle.trigger_pair.specs.Laws.{IsPair}
 use Rattle.trigger_pair.specs.Stored.{new_view, old_view}
 use Rattle.phase_steps.specs.Places.{value_in}
 use Rattle.phase_steps.specs.Rows.{trimmed_view}
-use Rattle.catalog.specs.declared.versions.Known.{Known}
 use Rattle.catalog.specs.declared.versions.Stage.{Stage}
 use Rattle.catalog.specs.declared.versions.Stage.TheVariants.{Calm, Both, AfterFirst, AfterSecond, RolledBack}
-use Rattle.catalog.specs.Versions.{tables_on}
-use Rattle.catalog.specs.Views.{pair_in, pair_positions, row_places, selected}
-
--- ---- what is known
-
-abbrev pub HasFewColumns : Table → Type 0
-HasFewColumns table = length table.2.columns ≤ max_columns
-
--- No table has too many columns, and what a table is in both of a migration's versions is a pair.
-pub record IsKnown (known : Known) : Type 0 where
-  pub few : (side : Side) → AllByRecursion HasFewColumns (tables_on known side)
-  pub pairs : (number : ℕ) (pair : Pair) → pair_in known number ≡ Some pair → IsPair pair
-
--- ---- what stands in the places
+use Rattle.catalog.specs.Views.{pair_positions, row_places, selected}
 
 -- What stands in these places of a row.
 abbrev pub values_at : List Value → List ℕ → List Value

@@ -2,3 +2,4 @@ pub mod Laws
 pub mod Places
 pub mod Versions
 pub mod Views
+pub mod Widths

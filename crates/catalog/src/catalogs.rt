@@ -1,9 +1,9 @@
 //! The catalog.
-ghost use Rattle.std.specs.Prelude.{◌≡◌, IfOk};
+ghost use Rattle.std.specs.Prelude.{◌≡◌, true, IfOk};
 ghost use Rattle.std.specs.Option.{option_copied};
-ghost use Rattle.catalog.specs.Laws.{IsKnown};
 ghost use Rattle.catalog.specs.Versions as versions;
 ghost use Rattle.catalog.specs.Views as views;
+ghost use Rattle.catalog.specs.Widths.{is_narrow};
 
 use crate::finding::table_of;
 use crate::versions::{Known, View};
@@ -43,9 +43,10 @@ impl Model for Catalog {
 }
 
 impl Catalog {
-    /// The catalog of these versions, at their stage. An error is want of memory.
+    /// The catalog of these versions, at their stage. No table of them has more than 32 columns (`Known::is_narrow`).
+    /// An error is want of memory.
     pub fn new(alloc: Global, known: Known) -> Result<Catalog, NoMemory>
-        requires { IsKnown known }
+        requires { is_narrow known ≡ true }
         ensures { IfOk result (λ catalog. catalog ≡ known) }
     {
         let old = views_on(alloc, &known, Side::Old)?;

@@ -7,8 +7,11 @@ mod finding;
 pub mod laws;
 mod pairs;
 mod places;
+#[cfg(test)]
+mod tests;
 mod versions;
 mod viewing;
+mod widths;
 
 pub use catalogs::Catalog;
 pub use versions::{Known, Stage, View};

@@ -27,7 +27,7 @@ fn shape_numbered(schema: &Schema, number: u32) -> Option<&Shape>
     }
 }
 
-fn lens_in(fate: &Fate) -> Option<&Lens>
+pub(crate) fn lens_in(fate: &Fate) -> Option<&Lens>
     ensures { option_copied result ≡ lens_in fate.now }
 {
     match fate {

@@ -1,14 +1,14 @@
 //! The views of a version's tables.
-ghost use Rattle.std.specs.Prelude.{◌≡◌, ◌<◌, ◌^◌, ℕ, length, map, nat_eq, IfOk};
+ghost use Rattle.std.specs.Prelude.{◌≡◌, ◌<◌, ◌^◌, ℕ, length, map, nat_eq, true, IfOk};
 ghost use Rattle.indexmap.specs.IndexMap.{get};
-ghost use Rattle.catalog.specs.Laws.{HasFewColumns, IsKnown};
 ghost use Rattle.catalog.specs.Places as lent;
-ghost use Rattle.catalog.specs.Versions.{tables_on};
 ghost use Rattle.catalog.specs.Views as spec;
+ghost use Rattle.catalog.specs.Widths as widths;
 
 use crate::pairs::{PairRef, pair_in};
 use crate::places::{RowPlace, is_same_place, row_places, selected_places};
 use crate::versions::{Known, Stage, View};
+use crate::widths::tables_on;
 use indexmap::IndexMap;
 use mig_lens::Side;
 use sql_base::{Column, Copying, List, Name, NoMemory, Shape};
@@ -92,11 +92,10 @@ fn positions(
     side: Side,
     table: &(Name, u32, Shape),
 ) -> Result<List<u32>, NoMemory>
-    requires known { IsKnown known.now }
-    requires few { HasFewColumns table.now }
+    requires known { widths.is_narrow known.now ≡ true }
+    requires table { widths.table_is_narrow table.now ≡ true }
     ensures { IfOk result (λ all. all ≡ spec.positions known.now side table.now) }
 {
-    trigger_pair::laws::pairs_are_long();
     match pair_in(known, table.1) {
         Some(pair) => pair_positions(alloc, &known.stage, side, pair),
         None => own_positions(alloc, table.2.columns.as_slice()),
@@ -109,8 +108,8 @@ fn view_of(
     side: Side,
     table: &(Name, u32, Shape),
 ) -> Result<View, NoMemory>
-    requires known { IsKnown known.now }
-    requires few { HasFewColumns table.now }
+    requires known { widths.is_narrow known.now ≡ true }
+    requires table { widths.table_is_narrow table.now ≡ true }
     ensures { IfOk result (λ view. view ≡ spec.view_of known.now side table.now) }
 {
     let positions = positions(alloc, known, side, table)?;
@@ -119,29 +118,13 @@ fn view_of(
     Ok(View { name, columns })
 }
 
-/// The tables of the version of a side; none where it doesn't stand.
-fn tables_on(known: &Known, side: Side) -> &[(Name, u32, Shape)]
-    ensures { result.now ≡ tables_on known.now side }
-{
-    match side {
-        Side::Old => known.schema.tables.as_slice(),
-        Side::New => match &known.stage {
-            Stage::Both { schema, .. } => schema.tables.as_slice(),
-            Stage::Calm
-            | Stage::AfterFirst { .. }
-            | Stage::AfterSecond { .. }
-            | Stage::RolledBack { .. } => &[],
-        },
-    }
-}
-
 /// The views of a side's tables, by the tables' numbers. An error is want of memory.
 pub(crate) fn views_on(
     alloc: Global,
     known: &Known,
     side: Side,
 ) -> Result<IndexMap<u32, View>, NoMemory>
-    requires { IsKnown known.now }
+    requires { widths.is_narrow known.now ≡ true }
     ensures { IfOk result (λ views. (number : ℕ) → get nat_eq views number ≡ spec.view_on known.now side number) }
 {
     let mut views = IndexMap::new(alloc);
