@@ -1,5 +1,5 @@
 -- How many places a stored row has, and where they stand.
-use Rattle.std.proofs.Common.{◌≡◌, ◌∙◌, ◌<◌, ◌≤◌, ℕ, zero, suc, ◌+◌, ◌^◌, List, [], ◌∷◌, ◌++◌, Bool, true, false, Some, None, Option, subst, length, map, cond, drop, get_or, add-one, append_assoc, length-append, ap, refl, sym, arith}
+use Rattle.std.proofs.Common.{◌≡◌, ◌∙◌, ◌<◌, ◌≤◌, ℕ, suc, ◌+◌, ◌^◌, List, [], ◌∷◌, ◌++◌, Bool, true, false, Some, None, Option, subst, length, map, cond, drop, get_or, add-one, append_assoc, length-append, ap, refl, sym, arith}
 use Rattle.std.specs.Prelude.{◌==◌, ◌&&◌, filter, find}
 use Rattle.std.specs.Option.{option_and_then, option_map, option_map_or}
 use Rattle.std.specs.List.{enumerate_from, list_all}
@@ -7,7 +7,6 @@ use Rattle.std.proofs.Math.Seq.{drop-cons}
 use Rattle.std.proofs.lemmas.List.{length-map}
 use Rattle.std.proofs.lemmas.List.FromFn.{length-enumerate_from}
 use Rattle.mig_lens.specs.declared.columns.Cell.{Cell}
-use Rattle.mig_lens.specs.declared.columns.Cell.TheVariants.{Carry, Make, Still}
 use Rattle.mig_lens.specs.declared.columns.Lens.{Lens}
 use Rattle.mig_lens.specs.declared.columns.Side.{Side}
 use Rattle.mig_lens.specs.declared.columns.Side.TheVariants.{Old, New}
@@ -18,7 +17,7 @@ use Rattle.sql_base.specs.declared.shapes.Schema.{Schema}
 use Rattle.sql_base.specs.declared.shapes.Shape.{Shape}
 use Rattle.std.proofs.lemmas.Bool.Decides.{nat_tests}
 use Rattle.trigger_pair.specs.declared.pairs.Pair.{Pair}
-use Rattle.phase_steps.specs.Places.{Place, Own, Shadow, carried_places, mark_places, old_places, paired_places, shadow_places, trimmed_row_places}
+use Rattle.phase_steps.specs.Places.{carried_places, mark_places, old_places, paired_places, shadow_places, trimmed_row_places}
 use Rattle.phase_steps.specs.Rows.{is_shadow, pair_of}
 use Rattle.catalog.specs.declared.pairs.PairRef.{PairRef}
 use Rattle.catalog.specs.declared.versions.Known.{Known}
@@ -123,12 +122,14 @@ pair_few current (AfterFirst lost fates) number pair all is = among_few lost cur
 pair_few current (AfterSecond lost fates) number pair all is = among_few lost current fates number pair all is
 pair_few current (RolledBack lost fates) number pair all is = among_few current lost fates number pair all is
 
+fates_narrow : (known : Known) → is_narrow known ≡ true → list_all fate_is_narrow (fates_at known.stage) ≡ true
+fates_narrow known narrow = and_last _ _ narrow
+
 -- A stored row of a narrow pair has few places.
 pub places_fit : (known : Known) → is_narrow known ≡ true → (number : ℕ) (pair : PairRef) → Some (lent.pair pair) ≡ pair_in known number → length (row_places known.stage (lent.pair pair)) < 2 ^ 32
 places_fit known narrow number pair found =
-    let fates : list_all fate_is_narrow (fates_at known.stage) ≡ true = and_last _ _ narrow in
     let few : length (row_places known.stage (lent.pair pair)) ≤ 65 =
-    row_few known.stage (lent.pair pair) (pair_few known.schema known.stage number (lent.pair pair) fates (sym found)) in
+    row_few known.stage (lent.pair pair) (pair_few known.schema known.stage number (lent.pair pair) (fates_narrow known narrow) (sym found)) in
     omega (arith, few)
 
 -- The tables of each side are narrow.

@@ -1,7 +1,7 @@
 -- What stands where a view finds its columns.
 use Rattle.std.proofs.Common.{◌≡◌, ◌∙◌, ◌<◌, ℕ, zero, suc, ◌+◌, List, [], ◌∷◌, ◌++◌, Bool, true, false, not, cond, ◌||◌, Option, Some, None, add-zero, ap, arith, length, map, refl, sym, zero-add}
 use Rattle.std.specs.Prelude.{◌==◌, filter, if◌then◌else◌, slice_get, slice_index_or}
-use Rattle.std.specs.List.{AllByRecursion, enumerate_from, list_any, position_or_len}
+use Rattle.std.specs.List.{AllByRecursion, enumerate_from}
 use Rattle.std.proofs.lemmas.Bool.Decides.{nat_tests}
 use Rattle.std.proofs.lemmas.List.Folds.{list_any-append}
 use Rattle.std.proofs.lemmas.Option.{slice_get_within}
@@ -21,7 +21,7 @@ use Rattle.phase_steps.specs.Rows.{is_shadow}
 use Rattle.catalog.specs.declared.versions.Stage.{Stage}
 use Rattle.catalog.specs.declared.versions.Stage.TheVariants.{Calm, Both, AfterFirst, AfterSecond, RolledBack}
 use Rattle.catalog.specs.Laws.{PositionsAreWithin, PositionsFindSelected, PositionsFindShown, half_shown, values_at}
-use Rattle.catalog.specs.Views.{half_of, pair_positions, places_of_half, position_among, row_places, selected}
+use Rattle.catalog.specs.Views.{places_of_half, position_among, row_places, selected}
 
 -- ---- values
 

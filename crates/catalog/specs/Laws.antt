@@ -1,18 +1,34 @@
--- What stands where a view finds its columns.
-use Rattle.std.specs.Prelude.{◌≡◌, ◌<◌, ℕ, List, length, map, slice_index_or}
+-- What a view names, and what stands where it finds its columns.
+use Rattle.std.specs.Prelude.{◌≡◌, ◌<◌, ℕ, List, Some, length, map, slice_index_or}
 use Rattle.std.specs.List.{AllByRecursion}
 use Rattle.sql_base.specs.declared.values.Value.{Value}
 use Rattle.sql_base.specs.declared.values.Value.TheVariants.{Null}
 use Rattle.mig_lens.specs.declared.columns.Side.{Side}
 use Rattle.mig_lens.specs.declared.columns.Side.TheVariants.{Old, New}
+use Rattle.mig_lens.specs.Plan.{Table}
 use Rattle.trigger_pair.specs.declared.pairs.Pair.{Pair}
 use Rattle.trigger_pair.specs.Laws.{IsPair}
 use Rattle.trigger_pair.specs.Stored.{new_view, old_view}
 use Rattle.phase_steps.specs.Places.{value_in}
 use Rattle.phase_steps.specs.Rows.{trimmed_view}
+use Rattle.catalog.specs.declared.versions.Known.{Known}
 use Rattle.catalog.specs.declared.versions.Stage.{Stage}
 use Rattle.catalog.specs.declared.versions.Stage.TheVariants.{Calm, Both, AfterFirst, AfterSecond, RolledBack}
-use Rattle.catalog.specs.Views.{pair_positions, row_places, selected}
+use Rattle.catalog.specs.Versions.{table_on}
+use Rattle.catalog.specs.Views.{pair_in, pair_positions, row_places, selected, view_of}
+
+-- ---- names
+
+-- The view of a table that both of a migration's versions have names each of the version's columns, in order, with the
+-- positions of what it selects.
+abbrev pub ViewsNameColumns : Type 0
+ViewsNameColumns =
+    (known : Known) (side : Side) (table : Table) (pair : Pair) → table_on known side table.1 ≡ Some table →
+    pair_in known table.1 ≡ Some pair → IsPair pair →
+    (map (λ column. column.0) (view_of known side table).columns ≡ map (λ column. column.name) table.2.columns)
+    × (map (λ column. column.1) (view_of known side table).columns ≡ pair_positions known.stage side pair)
+
+-- ---- what stands in the places
 
 -- What stands in these places of a row.
 abbrev pub values_at : List Value → List ℕ → List Value

@@ -1,5 +1,5 @@
 -- What the code's own lists of places stand for, and what it lends to its calls.
-use Rattle.std.specs.Prelude.{ℕ, List, map}
+use Rattle.std.specs.Prelude.{List, map}
 use Rattle.catalog.specs.declared.pairs.PairRef.{PairRef}
 use Rattle.catalog.specs.declared.finding.VersionRef.{VersionRef}
 use Rattle.catalog.specs.declared.places.RowPlace.{RowPlace}

@@ -7,8 +7,6 @@ mod finding;
 pub mod laws;
 mod pairs;
 mod places;
-#[cfg(test)]
-mod tests;
 mod versions;
 mod viewing;
 mod widths;

@@ -1,5 +1,4 @@
 -- Each position is added behind those of the places before it.
-use Rattle.catalog.specs.declared.places.RowPlace.TheVariants.{Mark}
 use Rattle.catalog.specs.Places as lent
 use Rattle.catalog.specs.Views as spec
 use Rattle.catalog.proofs.Positions.{one_more}

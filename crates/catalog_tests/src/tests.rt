@@ -1,5 +1,5 @@
 //! What a path finds and where a view finds its columns, at each stage of one migration.
-use crate::{Catalog, Known, Stage, View};
+use catalog::{Catalog, Known, Stage, View};
 use mig_lens::{Cell, Fate, Lens, Side};
 use sql_base::{Column, Expr, List, Name, Schema, Shape, Ty, Value};
 use std::alloc::Global;
