@@ -62,5 +62,6 @@ shown (RolledBack lost fates) side pair row = half_shown Old pair row
 -- There stands what the version shows of the row.
 abbrev pub PositionsFindShown : Type 0
 PositionsFindShown =
-    (stage : Stage) (side : Side) (pair : Pair) (row : List Value) → IsPair pair → length row ≡ length (row_places stage pair) →
+    (stage : Stage) (side : Side) (pair : Pair) (row : List Value) → IsPair pair →
+    length row ≡ length (row_places stage pair) →
     values_at row (pair_positions stage side pair) ≡ shown stage side pair row

@@ -16,6 +16,22 @@ struct VersionRef<'a> {
     schema: &'a Schema,
 }
 
+/// The tables of the version of a side; none where it doesn't stand.
+pub(crate) fn tables_on(known: &Known, side: Side) -> &[(Name, u32, Shape)]
+    ensures { result.now ≡ spec.tables_on known.now side }
+{
+    match side {
+        Side::Old => known.schema.tables.as_slice(),
+        Side::New => match &known.stage {
+            Stage::Both { schema, .. } => schema.tables.as_slice(),
+            Stage::Calm
+            | Stage::AfterFirst { .. }
+            | Stage::AfterSecond { .. }
+            | Stage::RolledBack { .. } => &[],
+        },
+    }
+}
+
 /// Whether a path names a version of this name so.
 fn is_called(version: &Name, named: &Name) -> bool
     ensures { result ≡ bytes_eq named.now (spec.path_name version.now) }

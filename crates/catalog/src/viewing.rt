@@ -5,10 +5,10 @@ ghost use Rattle.catalog.specs.Places as lent;
 ghost use Rattle.catalog.specs.Views as spec;
 ghost use Rattle.catalog.specs.Widths as widths;
 
+use crate::finding::tables_on;
 use crate::pairs::{PairRef, pair_in};
 use crate::places::{RowPlace, is_same_place, row_places, selected_places};
 use crate::versions::{Known, Stage, View};
-use crate::widths::tables_on;
 use indexmap::IndexMap;
 use mig_lens::Side;
 use sql_base::{Column, Copying, List, Name, NoMemory, Shape};

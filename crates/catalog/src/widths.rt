@@ -1,31 +1,15 @@
 //! How many columns the tables may have that a catalog is made of.
 ghost use Rattle.std.specs.Prelude.{◌≡◌};
 ghost use Rattle.std.specs.List.{list_all};
-ghost use Rattle.catalog.specs.Versions as versions;
 ghost use Rattle.catalog.specs.Widths as spec;
 
+use crate::finding::tables_on;
 use crate::pairs::lens_in;
 use crate::versions::{Known, Stage};
 use mig_lens::{Fate, Lens, Side};
 use sql_base::{Name, Shape};
 
 const MAX_COLUMNS: usize = 32;
-
-/// The tables of the version of a side; none where it doesn't stand.
-pub(crate) fn tables_on(known: &Known, side: Side) -> &[(Name, u32, Shape)]
-    ensures { result.now ≡ versions.tables_on known.now side }
-{
-    match side {
-        Side::Old => known.schema.tables.as_slice(),
-        Side::New => match &known.stage {
-            Stage::Both { schema, .. } => schema.tables.as_slice(),
-            Stage::Calm
-            | Stage::AfterFirst { .. }
-            | Stage::AfterSecond { .. }
-            | Stage::RolledBack { .. } => &[],
-        },
-    }
-}
 
 fn fates_at(stage: &Stage) -> &[(u32, Fate)]
     ensures { result.now ≡ spec.fates_at stage.now }

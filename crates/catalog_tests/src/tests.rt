@@ -148,6 +148,35 @@ fn found_words(alloc: Global, found: Option<(Side, u32)>) -> Result<String, Fail
     }
 }
 
+fn catalog_at(alloc: Global, word: &str) -> Result<Option<Catalog>, Fail> {
+    let known = known(alloc, word)?;
+    if known.is_narrow() {
+        Ok(Some(Catalog::new(alloc, known)?))
+    } else {
+        Ok(None)
+    }
+}
+
+fn view_at(alloc: Global, word: &str, side: Side, table: u32) -> Result<String, Fail> {
+    let catalog = catalog_at(alloc, word)?.ok_or("narrow tables")?;
+    view_words(alloc, catalog.view(side, table))
+}
+
+fn path(alloc: Global, versions: &str) -> Result<List<Name>, Fail> {
+    let mut path = List::new(alloc);
+    for version in versions.split(' ') {
+        path.push(name(alloc, version)?)?;
+    }
+    Ok(path)
+}
+
+fn found_at(alloc: Global, word: &str, versions: &str, table: &str) -> Result<String, Fail> {
+    let path = path(alloc, versions)?;
+    let table = name(alloc, table)?;
+    let catalog = catalog_at(alloc, word)?.ok_or("narrow tables")?;
+    found_words(alloc, catalog.resolve(path.as_slice(), &table))
+}
+
 /// At a stage, a side and a table's number: the view. The stored row of table 1 is id name nick, then the shadow places of
 /// age and rank, and the mark; after C2 it is id name, and the shadow places.
 const VIEWS: &[(&str, Side, u32, &str)] = &[
@@ -209,10 +238,7 @@ const FOUND: &[(&str, &str, &str, &str)] = &[
 fn a_view_finds_its_columns_at_each_stage(rt: HostRuntime) -> Result<(), Fail> {
     let alloc = rt.alloc();
     for (word, side, table, wanted) in VIEWS {
-        let known = known(alloc, word)?;
-        assert!(rt; known.is_narrow());
-        let catalog = Catalog::new(alloc, known)?;
-        let made = view_words(alloc, catalog.view(*side, *table))?;
+        let made = view_at(alloc, word, *side, *table)?;
         assert!(rt; made.as_str() == *wanted, "{word} {table}: {made}");
     }
     Ok(())
@@ -222,19 +248,8 @@ fn a_view_finds_its_columns_at_each_stage(rt: HostRuntime) -> Result<(), Fail> {
 fn a_path_finds_a_table_in_its_first_version(rt: HostRuntime) -> Result<(), Fail> {
     let alloc = rt.alloc();
     for (word, versions, table, wanted) in FOUND {
-        let known = known(alloc, word)?;
-        assert!(rt; known.is_narrow());
-        let catalog = Catalog::new(alloc, known)?;
-        let mut path = List::new(alloc);
-        for version in versions.split(' ') {
-            path.push(name(alloc, version)?)?;
-        }
-        let found = catalog.resolve(path.as_slice(), &name(alloc, table)?);
-        let made = found_words(alloc, found)?;
-        assert!(rt;
-            made.as_str() == *wanted,
-            "{word} {versions} {table}: {made}"
-        );
+        let made = found_at(alloc, word, versions, table)?;
+        assert!(rt; made.as_str() == *wanted, "{word} {versions} {table}: {made}");
     }
     Ok(())
 }
