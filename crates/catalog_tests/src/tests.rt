@@ -249,7 +249,10 @@ fn a_path_finds_a_table_in_its_first_version(rt: HostRuntime) -> Result<(), Fail
     let alloc = rt.alloc();
     for (word, versions, table, wanted) in FOUND {
         let made = found_at(alloc, word, versions, table)?;
-        assert!(rt; made.as_str() == *wanted, "{word} {versions} {table}: {made}");
+        assert!(rt;
+            made.as_str() == *wanted,
+            "{word} {versions} {table}: {made}"
+        );
     }
     Ok(())
 }
