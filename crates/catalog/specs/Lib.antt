@@ -1,0 +1,5 @@
+pub mod Laws
+pub mod Places
+pub mod Versions
+pub mod Views
+pub mod Widths
