@@ -1,0 +1,8 @@
+use Rattle.mig_plan.proofs.Fates.{planned_fates_stand, tables_have_fates}
+use Rattle.mig_plan.proofs.laws.planned_tables_have_fates.Goals as goal
+
+pub returns-clause-stand : goal.returns-clause-stand
+returns-clause-stand c = planned_fates_stand
+
+pub returns-clause-all : goal.returns-clause-all
+returns-clause-all c = tables_have_fates
