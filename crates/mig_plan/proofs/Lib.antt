@@ -5,6 +5,7 @@ pub mod Fates
 pub mod Fine
 pub mod Making
 pub mod Names
+pub mod Numbered
 pub mod Operations
 pub mod OnlyAdded
 pub mod Planned

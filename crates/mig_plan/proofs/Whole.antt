@@ -84,7 +84,7 @@ TitleOk before after t = (after ≡ before) ⊎ ((to : List ℕ) → after ≡ S
 abbrev PutOk : DraftTable → DraftTable → DraftTable → Type 0
 PutOk table next t = Same table t × TitleOk table.name next.name t
 
-put_number : (next t : DraftTable) → (in_place next t).number ≡ t.number
+pub put_number : (next t : DraftTable) → (in_place next t).number ≡ t.number
 put_number next t = by_test (t.number == next.number) refl
   where
     by_test : (b : Bool) → (t.number == next.number) ≡ b → (if b then next else t).number ≡ t.number
@@ -175,7 +175,7 @@ free_title before to (t ∷ ts) h = (inr (λ n e. let is : to ≡ n = cc in subs
 titles_free : (old : Schema) (d : Draft) (name : List ℕ) → has_table old d name ≡ false → Each (λ t. is_titled name t.name ≡ false) d.tables
 titles_free old d name h = each_not (λ (t : DraftTable). is_titled name t.name) d.tables (neither (is_old_title old name) (is_new_title d name) h).1
 
-changed_soundly : (old : Schema) (at : ℕ) (o : Op) (d : Draft) (t next : DraftTable) → TableSound old t → changed old at o d t ≡ Ok next → Change old d t next
+pub changed_soundly : (old : Schema) (at : ℕ) (o : Op) (d : Draft) (t next : DraftTable) → TableSound old t → changed old at o d t ≡ Ok next → Change old d t next
 changed_soundly old at (op.CreateTable title columns) d t next s h = let is : t ≡ next = cc in subst (Change old d t) is (record { sound = s; number = refl; stood = refl; title = same_title t t refl d.tables })
 changed_soundly old at (op.DropTable title) d t next s h =
     let is : record t { name = None } ≡ next = cc in
@@ -205,7 +205,7 @@ table_of old at o d next h =
     let b = and_then_ok (changed old at o d a.0) _ next a.2 in
     record { table = a.0; is_found = ok_or_ok (table_meant d (title_of o)) (NoSuchTable (title_of o)) a.0 a.1; made = b.0; is_made = b.1; is = cc }
 
-found_stood : (name : List ℕ) (ts : List DraftTable) (table : DraftTable) → find (λ t. is_titled name t.name && t.stood) ts ≡ Some table → table.stood ≡ true
+pub found_stood : (name : List ℕ) (ts : List DraftTable) (table : DraftTable) → find (λ t. is_titled name t.name && t.stood) ts ≡ Some table → table.stood ≡ true
 found_stood name [] table h = cc
 found_stood name (t ∷ ts) table h = by_test (found_stood name ts table) (is_titled name t.name && t.stood) refl h
   where

@@ -1,6 +1,6 @@
 //! The laws of plans. Each is the contract of a function that does nothing.
 
-ghost use Rattle.mig_plan.specs.Laws.{PlanningWantsNothing, PlannedFatesStand, PlannedLensesJoin, TablesHaveFates, AddedColumnsLoseNothing, PlansKeepSchemas, OfAddedColumns, KeepsTables, HasFates, KeepsAll, HasLenses};
+ghost use Rattle.mig_plan.specs.Laws.{PlanningWantsNothing, PlannedFatesStand, PlannedLensesJoin, TablesHaveFates, PlannedFatesDiffer, CreatedTablesAreNumbered, PlansStayBelow, PlannedNumbersFit, AddedColumnsLoseNothing, PlansKeepSchemas, OfAddedColumns, KeepsTables, HasFates, KeepsAll, HasLenses};
 
 /// Each table that a plan keeps has a shape in both versions, and its lens fits the two shapes and is well formed over
 /// them, for every migration, whichever its operations are, and every schema whose tables have different names, different
@@ -18,11 +18,21 @@ pub fn planned_schemas_are_well_formed()
 {}
 
 /// Each fate of a plan is about the tables of its number: both versions have the table, joined by the lens, or it is one
-/// of the new version alone, or one of the old version alone. Each table of either version has a fate. It holds for
-/// every migration, and every schema as above.
+/// of the new version alone, or one of the old version alone. Each table of either version has a fate, and one only. It
+/// holds for every migration, and every schema as above.
 pub fn planned_tables_have_fates()
     ensures stand { PlannedFatesStand }
     ensures all { TablesHaveFates }
+    ensures differ { PlannedFatesDiffer }
+{}
+
+/// The tables that a plan creates have the numbers from that of the next table on, in the order of their creation, and
+/// the next number after these is above those of the new version's tables. Where the number before was one of 32 bits,
+/// so is this one. It holds for every migration, and every schema as above.
+pub fn created_tables_are_numbered()
+    ensures numbers { CreatedTablesAreNumbered }
+    ensures below { PlansStayBelow }
+    ensures fit { PlannedNumbersFit }
 {}
 
 /// Where each operation is `add_column`, the new version has the old version's tables, in the same order and under the
