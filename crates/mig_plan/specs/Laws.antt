@@ -53,12 +53,12 @@ PlansStayBelow =
     IsSchema old → IsBelow next_table old → plan_of old next_table m ≡ Ok plan →
     IsBelow (next_table + length (created_in plan.fates)) plan.schema
 
--- Where the number of the next table has 32 bits, so has that of the next one after the plan.
+-- Where the number of the next table has 32 bits, so has that of the next one after these. It holds for any schema.
 abbrev pub PlannedNumbersFit : Type 0
 PlannedNumbersFit =
     (old : Schema) (next_table : ℕ) (m : Migration) (plan : Plan) →
-    IsSchema old → IsBelow next_table old → plan_of old next_table m ≡ Ok plan →
-    next_table ≤ 4294967295 → next_table + length (created_in plan.fates) ≤ 4294967295
+    next_table ≤ 4294967295 → plan_of old next_table m ≡ Ok plan →
+    next_table + length (created_in plan.fates) ≤ 4294967295
 
 abbrev pub adds_column : Op → Bool
 adds_column (op.CreateTable name columns) = false

@@ -27,8 +27,8 @@ pub fn planned_tables_have_fates()
 {}
 
 /// The tables that a plan creates have the numbers from that of the next table on, in the order of their creation, and
-/// the next number after these is above those of the new version's tables. Where the number before was one of 32 bits,
-/// so is this one. It holds for every migration, and every schema as above.
+/// the next number after these is above those of the new version's tables. It holds for every migration, and every
+/// schema as above. That this number is one of 32 bits where the one before was holds for any schema.
 pub fn created_tables_are_numbered()
     ensures numbers { CreatedTablesAreNumbered }
     ensures below { PlansStayBelow }
