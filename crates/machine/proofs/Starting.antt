@@ -22,10 +22,12 @@ use Rattle.mig_lens.specs.declared.migrations.Migration.{Migration}
 use Rattle.mig_lens.specs.declared.migrations.Op.{Op}
 use Rattle.mig_lens.specs.declared.plans.Fate.{Fate}
 use Rattle.mig_lens.specs.declared.plans.Plan.{Plan}
-use Rattle.mig_lens.specs.Laws.{Joins, adds_column}
+use Rattle.mig_lens.specs.Laws.{AllBelow, Joins}
+use Rattle.mig_plan.specs.Laws.{adds_column}
 use Rattle.mig_lens.specs.Layout.{has_mark, is_make}
 use Rattle.mig_lens.specs.Lens.{IsWellFormed, fits, forward, outcomes, unfilled, unfilled_value}
-use Rattle.mig_lens.specs.Plan.{Table, plan_of, table_numbered}
+use Rattle.mig_lens.specs.Plan.{Table, table_numbered}
+use Rattle.mig_plan.specs.Plan.{plan_of}
 use Rattle.sql_base.specs.Laws.{all_true, both, either_none}
 use Rattle.machine.specs.declared.events.Asked.{Asked}
 use Rattle.machine.specs.declared.events.Asked.TheVariants.{Read, Refused as NotRead}
@@ -38,7 +40,7 @@ use Rattle.machine.specs.Statement.{max_rows}
 use Rattle.machine.specs.Migrate.{active, begun_table, may_not_start, not_yet, numbers_of, planned, start, start_planned, started, steps_left, taken, too_heavy, unplanned, unrun}
 use Rattle.machine.specs.Done.{Started}
 use Rattle.row_rules.specs.Steps.{begun_half, begun_row}
-use Rattle.machine.specs.Standing.{AllBelow, Ascends, HalfStands, IsState, NewStands, NoneLost, NumbersAscend, RowStands, RowsStand, VersionStands, may_miss}
+use Rattle.machine.specs.Standing.{Ascends, HalfStands, IsState, NewStands, NoneLost, NumbersAscend, RowStands, RowsStand, VersionStands, may_miss}
 use Rattle.machine.proofs.Moving.{Carries, Rows, ascends_mapped, counts_kept, each, each_among, each_so, map_each, numbers_kept, rows_mapped, tables_mapped}
 use Rattle.machine.specs.Below.{Below}
 use Rattle.machine.proofs.Outcomes.{Holds, Stands, holds_guarded, holds_then, holds_without}

@@ -11,9 +11,9 @@ use Rattle.mig_lens.specs.declared.faults.PlanFault.{PlanFault}
 use Rattle.mig_lens.specs.declared.faults.PlanFault.TheVariants as plan_fault
 use Rattle.mig_lens.specs.declared.faults.Refusal.TheVariants.{AlreadyActive, BackfillRefused, BadExpr, BadJson, BadType, ColumnTwice, DownNeeded, Exists, KeyColumn, Limit, NameTaken, NoActive, NoSuchColumn, NoSuchTable, NotFilled, NotValid, Unfinished, UpNeeded}
 use Rattle.mig_lens.specs.declared.migrations.Op.{Op}
-use Rattle.mig_lens.specs.Laws.{adds_column}
+use Rattle.mig_plan.specs.Laws.{adds_column}
 use Rattle.mig_lens.specs.Lens.{is_carry}
-use Rattle.mig_lens.specs.Plan.{plan_of}
+use Rattle.mig_plan.specs.Plan.{plan_of}
 use Rattle.row_rules.specs.Changes.{cause_together, changes}
 use Rattle.row_rules.specs.Rows.{rows_at}
 use Rattle.row_rules.specs.Site.{name_of, number_of}

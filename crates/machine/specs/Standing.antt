@@ -13,7 +13,7 @@ use Rattle.mig_lens.specs.declared.columns.Side.TheVariants.{Old, New}
 use Rattle.mig_lens.specs.declared.faults.Kind.{Kind}
 use Rattle.mig_lens.specs.declared.faults.Kind.TheVariants.{Nothing, Complete, Rollback}
 use Rattle.mig_lens.specs.declared.plans.Fate.{Fate}
-use Rattle.mig_lens.specs.Laws.{IsSchema, Joins}
+use Rattle.mig_lens.specs.Laws.{AllBelow, IsSchema, Joins}
 use Rattle.mig_lens.specs.Layout.{has_mark}
 use Rattle.mig_lens.specs.Plan.{Table, table_numbered}
 use Rattle.row_rules.specs.declared.kinds.Kept.{Kept}
@@ -67,11 +67,6 @@ NumbersAscend (number ∷ next ∷ numbers) = (number < next) × NumbersAscend (
 -- Each of the version's tables has its rows among those of these numbers.
 abbrev pub has_all : List ℕ → Schema → Bool
 has_all numbers schema = list_all (λ table. list_any (nat_eq (number_of table)) numbers) schema.tables
-
--- The numbers of its tables are below the next one.
-abbrev pub AllBelow : ℕ → List Table → Type 0
-AllBelow next [] = Unit {0}
-AllBelow next (table ∷ tables) = (number_of table < next) × AllBelow next tables
 
 -- Each of these numbers is that of one of the version's tables.
 abbrev pub all_known : Schema → List ℕ → Bool

@@ -2,9 +2,9 @@
 ghost use Rattle.machine.specs.Below.{Below};
 ghost use Rattle.machine.specs.Laws.{StepsKeepStates, RunsReachStates, RefusalsChangeNothing, BegunHalvesAreMade, OldShowsOldHalves, PlainStepsAreSteps, LaneStepsAreSteps, LaneRunsAreRuns, StepsKeepLaws, RunsReachLawful, OnlyCommandsAreRefused, BatchesLeaveFewer, UnfilledRowsAreFew, StepsLeaveFewer, StepsAreFew, FoundStands, WritesStand, ShowsStand, SharedStands, FillingStands, RowsStandBy, RowsOnSites, ChangesKeep, ChangedRowsAscend, ChangesAgree, TablesHaveTheirRows, TablesAreShared, TablesStay, FilledRowsHaveHalves, StartsStand};
 
-use mig_lens::laws::{
-    added_columns_keep_tables, carried_columns_keep_their_values, made_halves_fit,
-    planned_lenses_join, planned_schemas_are_well_formed,
+use mig_lens::laws::{carried_columns_keep_their_values, made_halves_fit};
+use mig_plan::laws::{
+    added_columns_keep_tables, planned_lenses_join, planned_schemas_are_well_formed,
 };
 use sql_eval::laws::typed_values_are_of_their_types;
 

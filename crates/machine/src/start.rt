@@ -1,7 +1,7 @@
 //! What the start of a migration comes to.
 ghost use Rattle.std.specs.Prelude.{◌≡◌, IfOk, None, Some, map};
 ghost use Rattle.std.specs.List.{list_any};
-ghost use Rattle.mig_lens.specs.Laws.{adds_column};
+ghost use Rattle.mig_plan.specs.Laws.{adds_column};
 ghost use Rattle.row_rules.specs.Outcome.{Answers};
 ghost use Rattle.row_rules.specs.Steps as steps;
 ghost use Rattle.machine.specs.Migrate as spec;
@@ -11,7 +11,8 @@ use crate::events::{Asked, Reply};
 use crate::refusals::{limit, steps_left};
 use crate::states::{Mode, State};
 use crate::tables::lens_among;
-use mig_lens::{Fate, Lens, Migration, Op, Plan, PlanFault, Refusal, plan};
+use mig_lens::{Fate, Lens, Migration, Op, Plan, PlanFault, Refusal};
+use mig_plan::plan;
 use row_rules::{Kept, Stop, begun_row, show_heavy};
 use sql_base::{Copying, List, Name, NoMemory};
 use std::alloc::Global;

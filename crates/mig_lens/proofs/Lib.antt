@@ -1,15 +1,1 @@
-pub mod Created
-pub mod Each
-pub mod Earlier
-pub mod Fates
-pub mod Fine
 pub mod HalvesFit
-pub mod Making
-pub mod Names
-pub mod Operations
-pub mod OnlyAdded
-pub mod Planned
-pub mod PlansWantNothing
-pub mod Sides
-pub mod Sound
-pub mod Whole

@@ -1,12 +1,5 @@
-pub mod Columns
-pub mod Constraints
-pub mod Draft
-pub mod Finish
 pub mod Laws
 pub mod Layout
 pub mod Lens
-pub mod Places
 pub mod Plan
-pub mod Renaming
-pub mod Tables
 pub mod Versions

@@ -4,8 +4,9 @@ mod shown;
 use made::{migration, name, one, text, users};
 use mig_lens::{
     Fate, Kind, Layout, Lens, Member, Migration, Op, Place, Plan, PlanFault, Refusal, Ways,
-    backward, forward, layout, plan,
+    backward, forward, layout,
 };
+use mig_plan::plan;
 use sql_base::{Code, Copying, Expr, List, Name, Shape, Value};
 use std::alloc::Global;
 use std::test::Fail;

@@ -1,7 +1,0 @@
-use Rattle.std.proofs.Common.{◌≡◌, ◌+◌, drop}
-use Rattle.std.specs.List.{position_or_len}
-use Rattle.mig_lens.specs.Draft.{is_now}
-use Rattle.mig_lens.proofs.altering.position_of.Given as goal
-
-abbrev pub invariant-loop-at : goal.invariant-loop-at
-invariant-loop-at l = l.at + position_or_len (is_now l.name) (drop l.at l.columns) ≡ position_or_len (is_now l.name) l.columns

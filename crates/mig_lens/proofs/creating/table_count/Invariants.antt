@@ -1,6 +1,0 @@
-use Rattle.std.proofs.Common.{◌≡◌, ◌≤◌, ◌+◌, drop}
-use Rattle.mig_lens.specs.Tables.{table_count}
-use Rattle.mig_lens.proofs.creating.table_count.Given as goal
-
-abbrev pub invariant-loop-table : goal.invariant-loop-table
-invariant-loop-table l = (l.count ≤ l.table-index) × (l.count + table_count (drop l.table-index l.tables) ≡ table_count l.tables)

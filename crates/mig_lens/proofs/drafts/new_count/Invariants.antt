@@ -1,6 +1,0 @@
-use Rattle.std.proofs.Common.{◌≡◌, ◌≤◌, ◌+◌, drop}
-use Rattle.mig_lens.specs.Draft.{new_count}
-use Rattle.mig_lens.proofs.drafts.new_count.Given as goal
-
-abbrev pub invariant-loop-column : goal.invariant-loop-column
-invariant-loop-column l = (l.count ≤ l.column-index) × (l.count + new_count (drop l.column-index l.columns) ≡ new_count l.columns)

@@ -1,5 +1,0 @@
-use Rattle.mig_lens.proofs.Planned.{planned_schema}
-use Rattle.mig_lens.proofs.laws.planned_schemas_are_well_formed.Goals as goal
-
-pub returns : goal.returns
-returns c = planned_schema

@@ -1,5 +1,0 @@
-use Rattle.mig_lens.proofs.PlansWantNothing.{planning_wants_nothing}
-use Rattle.mig_lens.proofs.laws.planning_wants_nothing.Goals as goal
-
-pub returns : goal.returns
-returns c = planning_wants_nothing

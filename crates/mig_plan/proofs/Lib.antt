@@ -1,0 +1,15 @@
+pub mod Created
+pub mod Each
+pub mod Earlier
+pub mod Fates
+pub mod Fine
+pub mod Making
+pub mod Names
+pub mod Numbered
+pub mod Operations
+pub mod OnlyAdded
+pub mod Planned
+pub mod PlansWantNothing
+pub mod Sides
+pub mod Sound
+pub mod Whole

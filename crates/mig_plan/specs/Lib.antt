@@ -1,0 +1,10 @@
+pub mod Columns
+pub mod Constraints
+pub mod Draft
+pub mod Finish
+pub mod Laws
+pub mod Places
+pub mod Plan
+pub mod Renaming
+pub mod Tables
+pub mod Versions
