@@ -1,4 +1,4 @@
--- Where each operation is add_column the tables stay, and each old column is carried.
+-- Where each operation is add_column, each old column is carried.
 use Rattle.std.proofs.Common.{◌≡◌, ◌∙◌, ℕ, ◌+◌, List, [], ◌∷◌, Bool, true, false, Option, Some, None, Ok, if◌then◌else◌, map, ap, refl, sym, subst}
 use Rattle.std.specs.Prelude.{◌==◌, find, is_some}
 use Rattle.std.specs.List.{cons_option, filter_map, list_all}
@@ -23,7 +23,7 @@ use Rattle.mig_plan.specs.Columns.{column_added, column_fault, new_column, with_
 use Rattle.mig_plan.specs.Draft.{in_place}
 use Rattle.mig_plan.specs.Finish.{cell_of, fate, fate_of, finished, lens_of_columns, new_table, next_place, old_cells, shape_of}
 use Rattle.mig_lens.specs.Laws.{IsBelow, IsSchema}
-use Rattle.mig_plan.specs.Laws.{AddedColumnsLoseNothing, HasFates, HasLenses, KeepsAll, KeepsTables, OfAddedColumns, adds_column}
+use Rattle.mig_plan.specs.Laws.{AddedColumnsLoseNothing, adds_column}
 use Rattle.mig_lens.specs.Lens.{all_carry}
 use Rattle.mig_plan.specs.Places.{first_bad}
 use Rattle.mig_lens.specs.Plan.{lens_in, lens_of}
@@ -138,72 +138,10 @@ grown old next_table m plan is below adds h =
     let start : AllGrown old.tables a.0.tables = subst (λ (e : Draft). AllGrown old.tables e.tables) (begun_is old next_table a.0 a.1) (first_grown old.tables) in
     record { draft = b.0; grown = ops_grown old old.tables 0 m.operations a.0 b.0 adds (begun_sound old next_table a.0 is below a.1) start b.1; is = c.1 }
 
--- ---- what the plan has
-
-titles_kept : (os : List Table) (ts : List DraftTable) → AllGrown os ts → map {B = List ℕ × ℕ} (λ table. (table.0, table.1)) (filter_map new_table ts) ≡ map {B = List ℕ × ℕ} (λ table. (table.0, table.1)) os
-titles_kept [] [] g = refl
-titles_kept [] (t ∷ ts) g = absurd g
-titles_kept (o ∷ os) [] g = absurd g
-titles_kept (o ∷ os) (t ∷ ts) g =
-    let name = g.0.name in
-    let number = g.0.number in
-    let pair : ◌≡◌ {A = List ℕ × ℕ} (o.0, t.number) (o.0, o.1) = cc in
-    let more = titles_kept os ts g.1 in
-    ap (λ n. map {B = List ℕ × ℕ} (λ table. (table.0, table.1)) (cons_option (option_map (λ n. (n, t.number, shape_of t)) n) (filter_map new_table ts))) name ∙ ap (λ p. p ∷ map {B = List ℕ × ℕ} (λ table. (table.0, table.1)) (filter_map new_table ts)) pair ∙ ap (λ ps. (o.0, o.1) ∷ ps) more
-
-pub keeps_tables : OfAddedColumns KeepsTables
-keeps_tables old next_table m plan is below adds h =
-    let g = grown old next_table m plan is below adds h in
-    subst (KeepsTables old) g.is (titles_kept old.tables g.draft.tables g.grown)
-
-fates_kept : (os : List Table) (ts : List DraftTable) → AllGrown os ts → map (λ f. f.0) (map fate_of ts) ≡ map (λ o. o.1) os
-fates_kept [] [] g = refl
-fates_kept [] (t ∷ ts) g = absurd g
-fates_kept (o ∷ os) [] g = absurd g
-fates_kept (o ∷ os) (t ∷ ts) g =
-    let here = g.0.number in
-    let more = fates_kept os ts g.1 in
-    cc
-
-pub has_fates : OfAddedColumns HasFates
-has_fates old next_table m plan is below adds h =
-    let g = grown old next_table m plan is below adds h in
-    subst (HasFates old) g.is (fates_kept old.tables g.draft.tables g.grown)
+-- ---- old columns are carried
 
 fate_kept : (o : Table) (t : DraftTable) → Grown o t → fate t.stood t.name t.columns ≡ Kept (lens_of_columns t.columns)
 fate_kept o t g = ap (λ b. fate b t.name t.columns) g.stood ∙ ap (λ n. fate true n t.columns) g.name
-
-lenses_kept : (os : List Table) (ts : List DraftTable) → AllGrown os ts → list_all (λ f. is_some (lens_in f.1)) (map fate_of ts) ≡ true
-lenses_kept [] [] g = refl
-lenses_kept [] (t ∷ ts) g = absurd g
-lenses_kept (o ∷ os) [] g = absurd g
-lenses_kept (o ∷ os) (t ∷ ts) g = all_true (is_some (lens_in (fate t.stood t.name t.columns))) (list_all (λ f. is_some (lens_in f.1)) (map fate_of ts)) (ap (λ f. is_some (lens_in f)) (fate_kept o t g.0)) (lenses_kept os ts g.1)
-
-pub keeps_all : OfAddedColumns KeepsAll
-keeps_all old next_table m plan is below adds h =
-    let g = grown old next_table m plan is below adds h in
-    subst (KeepsAll old) g.is (lenses_kept old.tables g.draft.tables g.grown)
-
--- Each table is found by its number exactly where a lens is.
-found_alike : (os : List Table) (fs : List (ℕ × Fate)) (number : ℕ) → map (λ f. f.0) fs ≡ map (λ o. o.1) os → list_all (λ f. is_some (lens_in f.1)) fs ≡ true → is_some (option_and_then (λ f. lens_in f.1) (find (λ f. f.0 == number) fs)) ≡ is_some (find (λ o. o.1 == number) os)
-found_alike [] [] number same kept = refl
-found_alike [] (f ∷ fs) number same kept = cc
-found_alike (o ∷ os) [] number same kept = cc
-found_alike (o ∷ os) (f ∷ fs) number same kept =
-    let here : f.0 ≡ o.1 = cc in
-    let rest : map (λ f. f.0) fs ≡ map (λ o. o.1) os = cc in
-    let lens = both (is_some (lens_in f.1)) (list_all (λ f. is_some (lens_in f.1)) fs) kept in
-    by_test (found_alike os fs number rest lens.1) lens.0 (o.1 == number) refl (ap (λ n. n == number) here)
-  where
-    by_test : is_some (option_and_then (λ f. lens_in f.1) (find (λ f. f.0 == number) fs)) ≡ is_some (find (λ o. o.1 == number) os) → is_some (lens_in f.1) ≡ true → (b : Bool) → (o.1 == number) ≡ b → (f.0 == number) ≡ (o.1 == number) → is_some (option_and_then (λ f. lens_in f.1) (if f.0 == number then Some f else find (λ f. f.0 == number) fs)) ≡ is_some (if o.1 == number then Some o else find (λ o. o.1 == number) os)
-    by_test more lens true is alike = rw (alike ∙ is, is) lens
-    by_test more lens false is alike = rw (alike ∙ is, is) more
-
-pub has_lenses : OfAddedColumns HasLenses
-has_lenses old next_table m plan is below adds h number =
-    found_alike old.tables plan.fates number (has_fates old next_table m plan is below adds h) (keeps_all old next_table m plan is below adds h)
-
--- ---- old columns are carried
 
 carry_cells : (cs : List DraftColumn) (at : ℕ) → Each Carries cs → all_carry (old_cells at cs) ≡ true
 carry_cells [] at h = refl

@@ -77,31 +77,6 @@ AddedColumnsLoseNothing =
     (old : Schema) (next_table : ℕ) (m : Migration) (plan : Plan) → IsSchema old → IsBelow next_table old → list_all adds_column m.operations ≡ true → plan_of old next_table m ≡ Ok plan →
     (number : ℕ) (lens : Lens) → lens_of plan number ≡ Some lens → all_carry lens.old_cols ≡ true
 
--- Of every plan of a migration each operation of which is add_column.
-abbrev pub OfAddedColumns : (Schema → Plan → Type 0) → Type 0
-OfAddedColumns Holds =
-    (old : Schema) (next_table : ℕ) (m : Migration) (plan : Plan) → IsSchema old → IsBelow next_table old → list_all adds_column m.operations ≡ true → plan_of old next_table m ≡ Ok plan → Holds old plan
-
--- the names and numbers of a version's tables
-abbrev pub titles : Schema → List (List ℕ × ℕ)
-titles schema = map {B = List ℕ × ℕ} (λ table. (table.0, table.1)) schema.tables
-
--- The new version has the old version's tables, in the same order, under the same names and numbers.
-abbrev pub KeepsTables : Schema → Plan → Type 0
-KeepsTables old plan = titles plan.schema ≡ titles old
-
--- There is one fate for each of the old version's tables, in the same order.
-abbrev pub HasFates : Schema → Plan → Type 0
-HasFates old plan = map (λ fate. fate.0) plan.fates ≡ map (λ table. table.1) old.tables
-
--- Each fate is that the table is kept.
-abbrev pub KeepsAll : Schema → Plan → Type 0
-KeepsAll old plan = list_all (λ fate. is_some (lens_in fate.1)) plan.fates ≡ true
-
--- The tables that have a lens are those of the old version.
-abbrev pub HasLenses : Schema → Plan → Type 0
-HasLenses old plan = (number : ℕ) → is_some (lens_of plan number) ≡ is_some (table_numbered old number)
-
 -- The new version is a schema as the old one is.
 abbrev pub PlansKeepSchemas : Type 0
 PlansKeepSchemas = (old : Schema) (next_table : ℕ) (m : Migration) (plan : Plan) → IsSchema old → IsBelow next_table old → plan_of old next_table m ≡ Ok plan → IsSchema plan.schema

@@ -1,6 +1,6 @@
 //! The laws of plans. Each is the contract of a function that does nothing.
 
-ghost use Rattle.mig_plan.specs.Laws.{PlanningWantsNothing, PlannedFatesStand, PlannedLensesJoin, TablesHaveFates, PlannedFatesDiffer, CreatedTablesAreNumbered, PlansStayBelow, PlannedNumbersFit, AddedColumnsLoseNothing, PlansKeepSchemas, OfAddedColumns, KeepsTables, HasFates, KeepsAll, HasLenses};
+ghost use Rattle.mig_plan.specs.Laws.{PlanningWantsNothing, PlannedFatesStand, PlannedLensesJoin, TablesHaveFates, PlannedFatesDiffer, CreatedTablesAreNumbered, PlansStayBelow, PlannedNumbersFit, AddedColumnsLoseNothing, PlansKeepSchemas};
 
 /// Each table that a plan keeps has a shape in both versions, and its lens fits the two shapes and is well formed over
 /// them, for every migration, whichever its operations are, and every schema whose tables have different names, different
@@ -33,16 +33,6 @@ pub fn created_tables_are_numbered()
     ensures numbers { CreatedTablesAreNumbered }
     ensures below { PlansStayBelow }
     ensures fit { PlannedNumbersFit }
-{}
-
-/// Where each operation is `add_column`, the new version has the old version's tables, in the same order and under the
-/// same names and numbers; there is one fate for each of them in that order, and it is that the table is kept. So the
-/// tables with a lens are those of the old version.
-pub fn added_columns_keep_tables()
-    ensures tables { OfAddedColumns KeepsTables }
-    ensures fates { OfAddedColumns HasFates }
-    ensures kept { OfAddedColumns KeepsAll }
-    ensures lenses { OfAddedColumns HasLenses }
 {}
 
 /// What a migration makes of a schema is a plan or a fault of the migration, and never want of memory: only a call may
