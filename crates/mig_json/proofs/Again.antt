@@ -84,6 +84,10 @@ absent_put k d ms (q ∷ ks) other h =
     let apart : q ≡ k → ⊥ = λ same. or_left (bytes_eq k q) (list_any (bytes_eq k) ks) other ((bytes_eq-Decides k q).1 (sym same)) in
     (get_member-put_other q k d ms apart ∙ h.0, absent_put k d ms ks (or_right (bytes_eq k q) (list_any (bytes_eq k) ks) other) h.1)
 
+nothing : (ks : List (List ℕ)) → AreAbsent ks no_members
+nothing [] = tt
+nothing (k ∷ ks) = (refl, nothing ks)
+
 absent_put_if : (k : List ℕ) (o : Option Data) (ms : Members) (ks : List (List ℕ)) → (is_member ks k ≡ true → ⊥) → AreAbsent ks ms → AreAbsent ks (put_if k o ms)
 absent_put_if k None ms ks other h = h
 absent_put_if k (Some d) ms ks other h = absent_put k d ms ks other h
@@ -215,13 +219,13 @@ module _ (read_back : ReadBack) where
 
   pairs_again : (xs : List (List ℕ × Expr)) → PairsFit xs → IsShort (pairs_data xs) → AreEach (pairs_data xs) xs
   pairs_again xs fit short =
-      let same : fold with_pair no_members xs ≡ row xs = in_row no_members xs (nothing xs) fit in
+      let same : fold with_pair no_members xs ≡ row xs = in_row no_members xs (none_before xs) fit in
       let within : length (compact_text (object (row xs))) ≤ max_expression = subst (λ ms. length (compact_text (object ms)) ≤ max_expression) same short in
       (row xs, ap object same, row_again false xs fit (omega (arith, within)))
     where
-      nothing : (xs : List (List ℕ × Expr)) → AreBeforeAll no_members xs
-      nothing [] = tt
-      nothing (x ∷ xs) = tt
+      none_before : (xs : List (List ℕ × Expr)) → AreBeforeAll no_members xs
+      none_before [] = tt
+      none_before (x ∷ xs) = tt
 
   ways_again : (x : Ways) → WaysFit x → IsShort (ways_data x) → IsWays (ways_data x) x
   ways_again (One a) fit short = text_again a fit short
@@ -262,10 +266,6 @@ module _ (read_back : ReadBack) where
     again kind.names xs sound fit short = fit
     again (kind.each place) xs sound fit short = pairs_again xs fit short
     again (kind.ways place) x sound fit short = ways_again x fit short
-
-    nothing : (ks : List (List ℕ)) → AreAbsent ks no_members
-    nothing [] = tt
-    nothing (k ∷ ks) = (refl, nothing ks)
 
     fields_again : (fields : Fields) (xs : ValuesOf fields) (ms : Members) → are_different (keys fields) ≡ true → are_sound fields ≡ true → AreAbsent (keys fields) ms → AllFit fields xs
         → IsShort (object (members_with fields xs ms)) → Are fields (object (members_with fields xs ms)) xs

@@ -8,14 +8,14 @@ use Rattle.serde_json.specs.Data.{Data, object, Items, no_items, item, Members, 
 use Rattle.serde_json.specs.Find.{get_member}
 use Rattle.serde_json.specs.Written.{compact_text, items_text, members_text, comma_if}
 
+tested : (b c : Bool) (x a d e : ℕ) → 1 ≤ length (cond b (92 ∷ a ∷ []) (cond c (92 ∷ 117 ∷ 48 ∷ 48 ∷ d ∷ e ∷ []) (x ∷ [])))
+tested true c x a d e = omega arith
+tested false true x a d e = omega arith
+tested false false x a d e = omega arith
+
 escaped_some : (x : ℕ) → 1 ≤ length (escape_byte x)
 unfolding escape_byte
-escaped_some x = by_tests (nat_lt 0 (escape_letter x)) (nat_lt x 32)
-  where
-    by_tests : (b c : Bool) → 1 ≤ length (cond b (92 ∷ escape_letter x ∷ []) (cond c (92 ∷ 117 ∷ 48 ∷ 48 ∷ _ ∷ _ ∷ []) (x ∷ [])))
-    by_tests true c = omega arith
-    by_tests false true = omega arith
-    by_tests false false = omega arith
+escaped_some x = tested (nat_lt 0 (escape_letter x)) (nat_lt x 32) x (escape_letter x) _ _
 
 escaped_longer : (s : List ℕ) → length s ≤ length (escape s)
 escaped_longer [] = omega arith
@@ -38,13 +38,10 @@ found_at : (later : Bool) (key : List ℕ) (ms : Members) (d : Data) → get_mem
 found_at later key no_members d e = absurd cc
 found_at later key (member l x ms) d e = by_place (slice_cmp nat_cmp key l) (λ f. found_at true key ms d f) e
   where
-    abbrev Inner : Type 0
-    Inner = get_member key ms ≡ Some d → length (compact_text d) ≤ length (members_text true ms)
-
     here : Some x ≡ Some d → length (compact_text d) ≤ length (members_text later (member l x ms))
     here e = let same : x ≡ d = cc in subst (λ y. length (compact_text y) ≤ length (members_text later (member l x ms))) same (value_shorter later l x ms)
 
-    by_place : (o : Ordering) → Inner → match_ordering o (get_member key ms) (Some x) (get_member key ms) ≡ Some d → length (compact_text d) ≤ length (members_text later (member l x ms))
+    by_place : (o : Ordering) → (get_member key ms ≡ Some d → length (compact_text d) ≤ length (members_text true ms)) → match_ordering o (get_member key ms) (Some x) (get_member key ms) ≡ Some d → length (compact_text d) ≤ length (members_text later (member l x ms))
     by_place Less inner e = omega (arith, inner e, others_shorter later l x ms)
     by_place Equal inner e = here e
     by_place Greater inner e = omega (arith, inner e, others_shorter later l x ms)

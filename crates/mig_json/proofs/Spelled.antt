@@ -1,6 +1,6 @@
 -- Names and the canonical texts of expressions are UTF-8.
-use Rattle.std.proofs.Common.{◌≡◌, ℕ, suc, ◌<◌, ◌≤◌, List, [], ◌∷◌, ◌++◌, length, get_or, Bool, true, false, not, cond, ◌&&◌, ◌||◌, ◌==◌, nat_lt, if◌then◌else◌, pos, negsuc, Option, Some, None, inl, inr, refl, sym, ap, ap₂, ◌∙◌, subst, arith, append_assoc, append-nil, map, codes, IsUtf8, absurd}
-use Rattle.std.proofs.lemmas.Bool.{and_parts, cases_lt, cases_eq}
+use Rattle.std.proofs.Common.{◌≡◌, ℕ, suc, ◌<◌, ◌≤◌, List, [], ◌∷◌, ◌++◌, length, get_or, Bool, true, false, not, cond, ◌&&◌, ◌||◌, ◌==◌, nat_lt, if◌then◌else◌, pos, negsuc, Option, Some, None, inl, inr, refl, sym, ap, ap₂, ◌∙◌, subst, arith, append_assoc, append-nil, map, codes, IsUtf8}
+use Rattle.std.proofs.lemmas.Bool.{and_parts, cases_lt, eqb-true}
 use Rattle.std.proofs.lemmas.Fmt.{IsAscii-signed}
 use Rattle.std.proofs.lemmas.Str.{IsUtf8-append, IsUtf8-nil, IsUtf8-encode, IsUtf8-from_ascii, IsUtf8-from_is_utf8, encode_ascii, inside_one}
 use Rattle.std.specs.List.{concat, flat_map, list_all}
@@ -44,10 +44,10 @@ doubled_low c small = by_test (c == byte "'")
     by_test false = ascii_then c [] small IsUtf8-nil
 
 doubled_byte : (x : ℕ) → 128 ≤ x → doubled x ≡ x ∷ []
-doubled_byte x high = elim (cases_eq x 39) [ inl same ↦ absurd (omega arith) | inr other ↦ by_test (x == 39) refl ]
+doubled_byte x high = by_test (x == 39) refl
   where
     by_test : (b : Bool) → (x == 39) ≡ b → (if b then x ∷ x ∷ [] else x ∷ []) ≡ x ∷ []
-    by_test true e = absurd (omega (arith, e))
+    by_test true e = absurd (omega (arith, eqb-true x 39 e))
     by_test false e = refl
 
 doubled_high : (xs : List ℕ) → ((k : ℕ) → k < length xs → 128 ≤ get_or xs k 0) → flat_map doubled xs ≡ xs
