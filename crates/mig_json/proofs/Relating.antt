@@ -1,5 +1,6 @@
 -- What meets the demands stands for a migration, and what stands for one meets them.
-use Rattle.std.proofs.Common.{◌≡◌, ℕ, ◌≤◌, List, [], length, true, codes, Option, Some, None, is_some, inl, inr, refl, sym, ◌∙◌, ap, subst, arith}
+use Rattle.std.proofs.Common.{◌≡◌, ◌⊎◌, ℕ, ◌<◌, ◌≤◌, List, [], length, true, codes, Option, Some, None, is_some, inl, inr, refl, sym, ◌∙◌, ap, subst, arith}
+use Rattle.std.proofs.lemmas.Bool.{cases_lt}
 use Rattle.std.specs.Prelude.{nat_le}
 use Rattle.serde_json.specs.Data.{Data, Items, array, string}
 use Rattle.serde_json.specs.Find.{get}
@@ -9,13 +10,14 @@ use Rattle.sql_parse.specs.Laws as sql
 use Rattle.mig_lens.specs.declared.migrations.Migration.{Migration}
 use Rattle.mig_lens.specs.declared.migrations.Op.{Op}
 use Rattle.mig_json.specs.declared.faults.JsonFault.{JsonFault}
-use Rattle.mig_json.specs.declared.faults.JsonFault.TheVariants.{Json}
+use Rattle.mig_json.specs.declared.faults.JsonFault.TheVariants.{TooLong, Json}
 use Rattle.mig_json.specs.Demand.{Demand, AreMet, FirstUnmet}
 use Rattle.mig_json.specs.Kind.{needed, within, items_of, item_demands, object, AreItems}
-use Rattle.mig_json.specs.Migration.{Makes, IsOperation, IsMigration, IsReading, TextsReadOrFail, NeverBoth, TextsReadOnce, TextsFailOnce}
+use Rattle.mig_json.specs.Migration.{Makes, IsOperation, IsMigration, Spells, IsReading, Fails, TextsReadOrFail, NeverBoth, TextsReadOnce, TextsFailOnce}
 use Rattle.mig_json.specs.Name.{is_name}
 use Rattle.mig_json.specs.Reading.{Asked, asked, form_demands, has_list, has_migration_name, is_of, operation_demands, migration_demands, json_in, text_demands, max_text}
 use Rattle.mig_json.specs.Table.{form}
+use Rattle.mig_json.specs.Writing.{canonical_text}
 use Rattle.mig_json.specs.declared.members.Object.TheVariants as which
 use Rattle.mig_json.proofs.Demands as demands
 use Rattle.mig_json.proofs.Meant.{named, arrayed, met_is, is_met, is_once, met_items, items_met, items_once}
@@ -131,27 +133,51 @@ fits n h = grind arith
 short : (n : ℕ) → n ≤ max_text → nat_le n max_text ≡ true
 short n h = grind arith
 
-met_text : (text : List ℕ) → AreMet (text_demands text) → (m : Migration) × IsReading text m
+met_text : (text : List ℕ) → AreMet (text_demands text) → (m : Migration) × Spells text m
 unfolding text_demands
 met_text text met =
     let value = held migration_demands (Json (codes "$")) (json_in text) met.1 in
     let migration = met_migration value.0 value.2 in
     (migration.0, record { short = fits (length text) met.0; value = value.0; json = value.1; is = migration.1 })
 
-text_met : (text : List ℕ) (m : Migration) → IsReading text m → AreMet (text_demands text)
+text_met : (text : List ℕ) (m : Migration) → Spells text m → AreMet (text_demands text)
 unfolding text_demands
 text_met text m h = (short (length text) h.short, rw (h.json) (refl, migration_met h.value m h.is))
 
-pub texts_read_or_fail : sql.OneTree → sql.TextsReadOrFail IsText depth → sql.NeverBoth IsText depth → TextsReadOrFail
-texts_read_or_fail law either never text = elim (demands.decided law either never (text_demands text)) [ inl met ↦ inl (met_text text met) | inr fails ↦ inr fails ]
-
-pub texts_never_both : NeverBoth
-texts_never_both text m f h k = demands.never_both (text_demands text) f (text_met text m h) k
-
-pub texts_read_once : sql.OneTree → TextsReadOnce
-texts_read_once law text a b h k =
+text_once : sql.OneTree → (text : List ℕ) (a b : Migration) → Spells text a → Spells text b → a ≡ b
+text_once law text a b h k =
     let values : k.value ≡ h.value = same_some _ h.value k.value h.json k.json in
     migration_once law h.value a b h.is (subst (λ (v : Data). IsMigration v b) values k.is)
 
-pub texts_fail_once : TextsFailOnce
-texts_fail_once text f g h k = demands.fails_once (text_demands text) f g h k
+-- a text that meets all demands reads, or has a canonical text that is too long
+by_length : (text : List ℕ) (m : Migration) → Spells text m → ((m : Migration) × IsReading text m) ⊎ ((f : JsonFault) × Fails text f)
+by_length text m h = elim (cases_lt max_text (length (canonical_text m))) [
+  | inl long ↦ inr (TooLong (length (canonical_text m)), inr (record { migration = m; spelled = h; long = long; is = refl }))
+  | inr within ↦ inl (m, record { spelled = h; within = within })
+]
+
+pub texts_read_or_fail : sql.OneTree → sql.TextsReadOrFail IsText depth → sql.NeverBoth IsText depth → TextsReadOrFail
+texts_read_or_fail law either never text = elim (demands.decided law either never (text_demands text)) [
+  | inl met ↦ let m = met_text text met in by_length text m.0 m.1
+  | inr fails ↦ inr (fails.0, inl fails.1)
+]
+
+within_or_long : (n : ℕ) → n ≤ max_text → max_text < n → ⊥
+within_or_long n h k = absurd (omega arith)
+
+pub texts_never_both : sql.OneTree → NeverBoth
+texts_never_both law text m f h (inl unmet) = demands.never_both (text_demands text) f (text_met text m h.spelled) unmet
+texts_never_both law text m f h (inr k) =
+    let same = text_once law text k.migration m k.spelled h.spelled in
+    within_or_long (length (canonical_text m)) h.within (subst (λ (a : Migration). max_text < length (canonical_text a)) same k.long)
+
+pub texts_read_once : sql.OneTree → TextsReadOnce
+texts_read_once law text a b h k = text_once law text a b h.spelled k.spelled
+
+pub texts_fail_once : sql.OneTree → TextsFailOnce
+texts_fail_once law text f g (inl h) (inl k) = demands.fails_once (text_demands text) f g h k
+texts_fail_once law text f g (inl h) (inr k) = absurd (demands.never_both (text_demands text) f (text_met text k.migration k.spelled) h)
+texts_fail_once law text f g (inr h) (inl k) = absurd (demands.never_both (text_demands text) g (text_met text h.migration h.spelled) k)
+texts_fail_once law text f g (inr h) (inr k) =
+    let same = text_once law text h.migration k.migration h.spelled k.spelled in
+    h.is ∙ ap (λ (a : Migration). TooLong (length (canonical_text a))) same ∙ sym k.is

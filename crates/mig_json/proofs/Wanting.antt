@@ -1,11 +1,11 @@
 -- Want of memory is the fault of no demand.
-use Rattle.std.proofs.Common.{◌≢◌, ℕ, List, [], ◌∷◌, ◌++◌, length, Option, Some, None, Bool, true, false, cond, inl, inr, sym, ◌∙◌, codes}
+use Rattle.std.proofs.Common.{◌≡◌, ◌≢◌, ℕ, List, [], ◌∷◌, ◌++◌, length, Option, Some, None, Bool, true, false, cond, inl, inr, sym, ◌∙◌, codes}
 use Rattle.std.specs.List.{AllByRecursion}
 use Rattle.serde_json.specs.Data.{Data, Items, no_items, item, Members, no_members, member}
 use Rattle.serde_json.specs.Find.{get}
 use Rattle.mig_lens.specs.declared.faults.Member.{Member}
 use Rattle.mig_json.specs.declared.faults.JsonFault.{JsonFault}
-use Rattle.mig_json.specs.declared.faults.JsonFault.TheVariants.{NoMemory}
+use Rattle.mig_json.specs.declared.faults.JsonFault.TheVariants.{TooLong, NoMemory}
 use Rattle.mig_json.specs.Demand.{Demand, reads, FirstUnmet, fault_of, inside}
 use Rattle.mig_json.specs.Kind as kind
 use Rattle.mig_json.specs.Kind.{Kind, Fields, bad, is_text, text_of, items_of, members_of, needed, within, member_path, element_path, item_demands, name_demands, pairs_demands, each_demands, demands, field_demands}
@@ -97,4 +97,8 @@ unfolding text_demands
 of_text text = ((λ e. absurd cc), ((λ e. absurd cc), want_within migration_demands (json_in text) of_migration))
 
 pub faults_want_nothing : FaultsWantNothing
-faults_want_nothing text f unmet = first_is (text_demands text) f (of_text text) unmet
+faults_want_nothing text f (inl unmet) = first_is (text_demands text) f (of_text text) unmet
+faults_want_nothing text f (inr long) = told f long.is
+  where
+    told : {n : ℕ} (f : JsonFault) → f ≡ TooLong n → f ≢ NoMemory
+    told f is e = absurd cc

@@ -1,17 +1,18 @@
 -- The texts that are migrations, as a relation between a JSON value and what it stands for.
-use Rattle.std.specs.Prelude.{◌≡◌, ◌≢◌, ◌⊎◌, ℕ, ◌≤◌, List, [], true, codes, length, Some}
+use Rattle.std.specs.Prelude.{◌≡◌, ◌≢◌, ◌⊎◌, ℕ, ◌<◌, ◌≤◌, List, [], true, codes, length, Some}
 use Rattle.serde_json.specs.Data.{Data, Items, string, array}
 use Rattle.serde_json.specs.Find.{get}
 use Rattle.mig_lens.specs.declared.migrations.Migration.{Migration}
 use Rattle.mig_lens.specs.declared.migrations.Op.{Op}
 use Rattle.mig_json.specs.declared.faults.JsonFault.{JsonFault}
-use Rattle.mig_json.specs.declared.faults.JsonFault.TheVariants.{NoMemory}
+use Rattle.mig_json.specs.declared.faults.JsonFault.TheVariants.{TooLong, NoMemory}
 use Rattle.mig_json.specs.declared.members.Object.TheVariants as which
 use Rattle.mig_json.specs.Demand.{FirstUnmet}
 use Rattle.mig_json.specs.Kind.{ValuesOf, Is, object, AreItems}
 use Rattle.mig_json.specs.Name.{is_name}
 use Rattle.mig_json.specs.Reading.{Asked, asked, is_of, json_in, text_demands, max_text}
 use Rattle.mig_json.specs.Table.{form}
+use Rattle.mig_json.specs.Writing.{canonical_text}
 
 -- What is asked for, with members of these values, is this operation.
 abbrev pub Makes : Asked → Op → Type 0
@@ -35,16 +36,29 @@ pub record IsMigration (d : Data) (m : Migration) : Type 0 where
   pub are : AreItems (λ before. IsOperation) [] values operations
   pub is : m ≡ record { name = name; operations = operations }
 
--- The text reads as this migration.
-pub record IsReading (text : List ℕ) (m : Migration) : Type 0 where
+-- The text is that of this migration.
+pub record Spells (text : List ℕ) (m : Migration) : Type 0 where
   pub short : length text ≤ max_text
   pub value : Data
   pub json : json_in text ≡ Some value
   pub is : IsMigration value m
 
--- The text's first fault is this one.
+-- The text reads as this migration, whose canonical text isn't too long either.
+pub record IsReading (text : List ℕ) (m : Migration) : Type 0 where
+  pub spelled : Spells text m
+  pub within : length (canonical_text m) ≤ max_text
+
+-- The text is that of a migration whose canonical text is too long, which this fault tells.
+pub record IsTooLong (text : List ℕ) (fault : JsonFault) : Type 0 where
+  pub migration : Migration
+  pub spelled : Spells text migration
+  pub long : max_text < length (canonical_text migration)
+  pub is : fault ≡ TooLong (length (canonical_text migration))
+
+-- The text's first fault is this one: that of the first demand that it doesn't meet; or, where it meets them all, that
+-- the canonical text is too long.
 abbrev pub Fails : List ℕ → JsonFault → Type 0
-Fails text fault = FirstUnmet (text_demands text) fault
+Fails text fault = FirstUnmet (text_demands text) fault ⊎ IsTooLong text fault
 
 -- Each text reads as a migration or has a first fault.
 abbrev pub TextsReadOrFail : Type 0

@@ -1,26 +1,28 @@
 //! From a text to a migration, by way of its JSON value.
 
-ghost use Rattle.std.specs.Prelude.{◌≡◌, ◌≢◌, [], Some, true, false, codes, option_map, map, IfErr, IfOk, MatchResult};
+ghost use Rattle.std.specs.Prelude.{◌≡◌, ◌≢◌, [], Some, true, false, codes, length, option_map, map, IfErr, IfOk, MatchResult};
 ghost use Rattle.serde_json.specs.View.{view, items_view, members_view};
 ghost use Rattle.mig_json.specs.Demand.{Reads};
 ghost use Rattle.mig_json.specs.Kind.{demands, item_demands, AreItems};
 ghost use Rattle.mig_json.specs.Kind as kind;
 ghost use Rattle.serde_json.specs.Data.{string};
 ghost use Rattle.serde_json.specs.Find.{get};
-ghost use Rattle.mig_json.specs.Migration.{Makes, IsOperation, IsMigration, IsReading, Fails};
+ghost use Rattle.mig_json.specs.Migration.{Makes, IsOperation, IsMigration, Spells, IsReading, Fails};
 ghost use Rattle.mig_json.specs.Name as spec_name;
 ghost use Rattle.mig_json.specs.Reading as spec;
 ghost use Rattle.mig_json.specs.Reading.{Asked};
 ghost use Rattle.mig_json.specs.Table as table;
+ghost use Rattle.mig_json.specs.Writing.{canonical_text};
 
 use crate::faults::{JsonFault, inside, top};
 use crate::members::{Object, Operation, is_of};
 use crate::names::is_name;
 use crate::objects::elements;
 use crate::operations::read_members;
+use crate::writing::write_migration;
 use mig_lens::{Migration, Op};
 use serde_json::{Map, Value};
-use sql_base::{List, Name};
+use sql_base::{List, Name, NoMemory};
 use std::alloc::Global;
 
 /// The bytes that a migration's text may have.
@@ -171,7 +173,7 @@ fn parse(alloc: Global, text: &[u8]) -> Result<Option<Value>, JsonFault>
 
 #[tactic(auto, unfolding(crate::specs::Reading::text_demands))]
 fn read_text(alloc: Global, text: &[u8]) -> Result<Migration, JsonFault>
-    ensures { Reads (spec.text_demands text.now) (λ it. IsReading text.now it) result }
+    ensures { Reads (spec.text_demands text.now) (λ it. Spells text.now it) result }
 {
     if text.len() > MAX_TEXT {
         return Err(JsonFault::TooLong {
@@ -184,13 +186,26 @@ fn read_text(alloc: Global, text: &[u8]) -> Result<Migration, JsonFault>
     }
 }
 
+/// The bytes of the migration's canonical text. An error is want of memory.
+fn canonical_len(alloc: Global, m: &Migration) -> Result<usize, NoMemory>
+    ensures { IfOk result (λ len. len ≡ length (canonical_text m.now)) }
+{
+    let text = write_migration(alloc, m)?;
+    Ok(text.as_slice().len())
+}
+
 /// The migration that a text reads as.
 ///
-/// An error is the first fault of the text, or want of memory. `laws::texts_read_or_fail` has that a text has a fault
+/// P20 `TooLong` comes where the text, or else the canonical text of the migration, has more than 65,536 bytes. An error is the first fault of the text, or want of memory. `laws::texts_read_or_fail` has that a text has a fault
 /// exactly where it reads as no migration.
 pub fn read_migration(alloc: Global, text: &[u8]) -> Result<Migration, JsonFault>
     ensures reading { IfOk result (λ m. IsReading text.now m) }
     ensures fault { IfErr result (λ f. f ≢ JsonFault.NoMemory → Fails text.now f) }
 {
-    read_text(alloc, text)
+    let m = read_text(alloc, text)?;
+    let len = canonical_len(alloc, &m)?;
+    if len > MAX_TEXT {
+        return Err(JsonFault::TooLong { len: len as u64 });
+    }
+    Ok(m)
 }
