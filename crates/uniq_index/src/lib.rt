@@ -1,0 +1,7 @@
+//! The values of a unique constraint's columns, by key, and the least key that has given ones.
+#![tactic(auto)]
+
+mod index;
+mod scanning;
+
+pub use index::UniqIndex;
