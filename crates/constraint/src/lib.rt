@@ -7,6 +7,7 @@
 
 mod clashes;
 mod faults;
+pub mod laws;
 mod names;
 mod validation;
 

@@ -2,6 +2,7 @@
 #![tactic(auto)]
 
 mod index;
+pub mod laws;
 mod scanning;
 
 pub use index::UniqIndex;
