@@ -1,10 +1,9 @@
 -- No constraint is told exactly of valid rows.
-use Rattle.std.proofs.Common.{◌≡◌, ◌∙◌, ℕ, ℤ, List, [], ◌∷◌, Bool, true, false, ◌&&◌, cond, not, Option, Some, None, refl, ap}
-use Rattle.std.specs.Prelude.{is_none, is_some}
+use Rattle.std.proofs.Common.{◌≡◌, ◌∙◌, ℤ, List, [], ◌∷◌, Bool, true, false, ◌&&◌, cond, not, Option, Some, None, refl, ap}
+use Rattle.std.specs.Prelude.{is_none}
 use Rattle.std.specs.List.{filter, list_all}
 use Rattle.std.specs.Map.{keys_of}
 use Rattle.std.specs.Option.{option_map, option_or}
-use Rattle.sql_base.specs.declared.shapes.Shape.{Shape}
 use Rattle.sql_base.specs.declared.shapes.Unique.{Unique}
 use Rattle.sql_base.specs.declared.values.Value.{Value}
 use Rattle.sql_eval.specs.Row.{least, row_fault}

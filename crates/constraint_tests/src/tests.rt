@@ -1,4 +1,7 @@
 // Constraints over rows, and indexes of values, against tables of what the rules say.
+ghost use Rattle.std.specs.Prelude.{◌≤◌, length, IfOk};
+ghost use Rattle.sql_eval.specs.Shape.{max_columns};
+
 use crate::put;
 use constraint::{Keyed, check_row, clash, validate};
 use sql_base::{
@@ -82,7 +85,9 @@ fn column(alloc: Global, word: &str, ty: Ty) -> Result<Column, NoMemory> {
     })
 }
 
-fn columns(alloc: Global, third: &str) -> Result<List<Column>, NoMemory> {
+fn columns(alloc: Global, third: &str) -> Result<List<Column>, NoMemory>
+    ensures { IfOk result (λ columns. length columns ≤ 3) }
+{
     let ty = if third.starts_with("code") {
         Ty::Text
     } else {
@@ -147,7 +152,9 @@ fn uniques(alloc: Global, words: &str) -> Result<List<Unique>, NoMemory> {
     Ok(uniques)
 }
 
-fn users(alloc: Global, third: &str, conditions: &str, of: &str) -> Result<Shape, NoMemory> {
+fn users(alloc: Global, third: &str, conditions: &str, of: &str) -> Result<Shape, NoMemory>
+    ensures { IfOk result (λ shape. length shape.columns ≤ max_columns) }
+{
     Ok(Shape {
         columns: columns(alloc, third)?,
         key: 0,
@@ -196,6 +203,25 @@ fn rows(alloc: Global, words: &str) -> Result<Vec<Keyed>, Fail> {
     Ok(rows)
 }
 
+fn fault(
+    alloc: Global,
+    third: &str,
+    conditions: &str,
+    row: &str,
+) -> Result<Option<RowFault>, Fail> {
+    let row = values(alloc, row)?;
+    let shape = users(alloc, third, conditions, "")?;
+    Ok(check_row(alloc, &shape, row.as_slice())?)
+}
+
+fn broken(alloc: Global, shape: Shape, words: &str) -> Result<Option<(Name, i64)>, Fail>
+    requires { length shape.columns ≤ max_columns }
+{
+    let table = named(alloc, &["users"])?;
+    let rows = rows(alloc, words)?;
+    Ok(validate(alloc, &table, &shape, rows.as_slice())?)
+}
+
 // What isn't met, as the tables have it.
 fn told(alloc: Global, broken: Option<(Name, i64)>) -> Result<String, Fail> {
     match broken {
@@ -210,9 +236,7 @@ fn told(alloc: Global, broken: Option<(Name, i64)>) -> Result<String, Fail> {
 #[test]
 fn a_row_has_the_first_fault(rt: HostRuntime) -> Result<(), Fail> {
     for (third, conditions, row, wanted) in FAULTS {
-        let shape = users(rt.alloc(), third, conditions, "")?;
-        let row = values(rt.alloc(), row)?;
-        let fault = check_row(rt.alloc(), &shape, row.as_slice())?;
+        let fault = fault(rt.alloc(), third, conditions, row)?;
         assert!(rt; fault == wanted);
     }
     Ok(())
@@ -220,11 +244,9 @@ fn a_row_has_the_first_fault(rt: HostRuntime) -> Result<(), Fail> {
 
 #[test]
 fn tables_are_valid_or_a_constraint_is_told(rt: HostRuntime) -> Result<(), Fail> {
-    let table = named(rt.alloc(), &["users"])?;
     for (third, conditions, of, words, wanted) in TABLES {
         let shape = users(rt.alloc(), third, conditions, of)?;
-        let rows = rows(rt.alloc(), words)?;
-        let broken = validate(rt.alloc(), &table, &shape, rows.as_slice())?;
+        let broken = broken(rt.alloc(), shape, words)?;
         let broken = told(rt.alloc(), broken)?;
         assert_eq!(rt; broken.as_str(), wanted);
     }

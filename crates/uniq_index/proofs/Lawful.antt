@@ -3,7 +3,7 @@ use Rattle.std.proofs.Common.{◌≡◌, ◌∙◌, ℤ, List, [], ◌∷◌, Bo
 use Rattle.std.specs.FinMap as finite
 use Rattle.std.specs.FinMap.Entries.{by_order}
 use Rattle.std.specs.List.{filter, list_any}
-use Rattle.std.specs.Map.{keys_of, lookup}
+use Rattle.std.specs.Map.{keys_of}
 use Rattle.std.proofs.lemmas.Cmp.{int_cmp_total}
 use Rattle.sql_base.specs.declared.shapes.Unique.{Unique}
 use Rattle.sql_base.specs.declared.values.Value.{Value}
@@ -12,7 +12,7 @@ use Rattle.sql_base.specs.Laws.{and_false}
 use Rattle.sql_eval.specs.Row.{all_alike, least, least_clash, values_of}
 use Rattle.sql_eval.specs.Value.{alike, is_null}
 use Rattle.row_store.specs.Laws.{RemovedIsLeftOut}
-use Rattle.uniq_index.specs.Laws.{ClashesAreThoseOfRows, Indexes, NullsClashWithNone, PutIsIndexed, RemovedIsNotIndexed}
+use Rattle.uniq_index.specs.Laws.{ClashesAreThoseOfRows, NullsClashWithNone, PutIsIndexed, RemovedIsNotIndexed}
 use Rattle.uniq_index.specs.Scan.{clashes}
 
 pub clashes_are_those_of_rows : ClashesAreThoseOfRows

@@ -1,5 +1,5 @@
 -- The first entry that clashes, of entries whose keys rise, has the least key of all that do.
-use Rattle.std.proofs.Common.{◌≡◌, ◌<◌, ◌≤◌, ◌∙◌, ◌+◌, ℕ, zero, suc, ℤ, List, [], ◌∷◌, drop, length, refl, ap, sym, Bool, true, false, cond, ◌&&◌, T, Option, Some, None, int_cmp, Ordering, Less, Equal, Greater, arith, add-one}
+use Rattle.std.proofs.Common.{◌≡◌, ◌<◌, ◌≤◌, ◌∙◌, ◌+◌, ℕ, zero, suc, ℤ, List, [], ◌∷◌, drop, length, refl, ap, sym, Bool, true, false, cond, T, Option, Some, None, int_cmp, Ordering, Less, Equal, Greater, arith, add-one}
 use Rattle.std.specs.Prelude.{int_lt, is_some, slice_get}
 use Rattle.std.specs.FinMap as map
 use Rattle.std.specs.FinMap.{is_sorted}
