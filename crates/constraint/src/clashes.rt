@@ -15,7 +15,8 @@ pub type Keyed = (i64, List<Value>);
 
 // Whether two rows have the same values, none of them NULL, in these columns.
 fn columns_alike(columns: &[u32], one: &[Value], two: &[Value]) -> bool
-    ensures { result ≡ row.all_alike (inner.values_at columns.now one.now) (inner.values_at columns.now two.now) }
+    ensures { result
+        ≡ row.all_alike (inner.values_at columns.now one.now) (inner.values_at columns.now two.now) }
 {
     for at in columns {
         match (one.get(*at as usize), two.get(*at as usize)) {
@@ -30,9 +31,11 @@ fn columns_alike(columns: &[u32], one: &[Value], two: &[Value]) -> bool
     true
 }
 
-/// Whether two rows have the same values, none of them NULL, in the columns of a unique constraint.
+/// Whether two rows have the same values, none of them NULL, in the columns of a unique constraint:
+/// PostgreSQL manual, 5.4.3.
 pub fn are_alike(unique: &Unique, one: &[Value], two: &[Value]) -> bool
-    ensures { result ≡ row.all_alike (row.values_of unique.now one.now) (row.values_of unique.now two.now) }
+    ensures { result
+        ≡ row.all_alike (row.values_of unique.now one.now) (row.values_of unique.now two.now) }
 {
     columns_alike(unique.columns.as_slice(), one, two)
 }
@@ -75,8 +78,8 @@ fn least_alike(unique: &Unique, rows: &[Keyed], key: i64, values: &[Value]) -> O
     least
 }
 
-/// The least other key whose row has the values of this key's row in the columns of a unique constraint, none of them
-/// NULL; or none, also where no row has the key.
+/// The least other key whose row has the values of this key's row in the columns of a unique
+/// constraint, none of them NULL; or none, also where no row has the key.
 pub fn clash(unique: &Unique, rows: &[Keyed], key: i64) -> Option<i64>
     ensures { result ≡ row.clash unique.now rows.now key }
 {

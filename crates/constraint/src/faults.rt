@@ -37,7 +37,8 @@ fn broken(
     at: usize,
     check: &Check,
 ) -> Result<Option<RowFault>, NoMemory>
-    ensures { IfOk result (λ fault. fault ≡ spec.broken at (eval shape.now row.now check.now.expr)) }
+    ensures { IfOk result (λ fault. fault
+        ≡ spec.broken at (eval shape.now row.now check.now.expr)) }
 {
     match eval(alloc, &check.expr, shape, row) {
         Ok(value) => {
@@ -52,14 +53,15 @@ fn broken(
     }
 }
 
-/// The first check that a row doesn't meet, by the checks' order. A check is met where it is true or NULL. An error is
-/// want of memory.
+/// The first check that a row doesn't meet, by the checks' order. A check is met where it is true
+/// or NULL: PostgreSQL manual, 5.4.1. An error is want of memory.
 pub fn check_fault(
     alloc: Global,
     shape: &Shape,
     row: &[Value],
 ) -> Result<Option<RowFault>, NoMemory>
-    ensures { IfOk result (λ fault. fault ≡ spec.check_fault 0 (map (λ check. eval shape.now row.now check.expr) shape.now.checks)) }
+    ensures { IfOk result (λ fault. fault
+        ≡ spec.check_fault 0 (map (λ check. eval shape.now row.now check.expr) shape.now.checks)) }
 {
     for (at, check) in shape.checks.as_slice().iter().enumerate() {
         if let Some(fault) = broken(alloc, shape, row, at, check)? {
@@ -69,7 +71,9 @@ pub fn check_fault(
     Ok(None)
 }
 
-/// What is wrong with a row, if anything: the first NULL in a NOT NULL column, else the first check that it doesn't meet.
+/// What is wrong with a row, if anything: the first NULL in a NOT NULL column, else the first check
+/// that it doesn't meet. (PostgreSQL manual, 5.4.1 and 5.4.2; that NOT NULL comes first is our
+/// own.)
 ///
 /// The shape has at most 32 columns, as each well-formed one has. An error is want of memory.
 pub fn check_row(alloc: Global, shape: &Shape, row: &[Value]) -> Result<Option<RowFault>, NoMemory>

@@ -1,4 +1,5 @@
-//! Laws of constraints, over their definitions alone. Each is the contract of a function that does nothing.
+//! Laws of constraints, over their definitions alone. Each is the contract of a function that does
+//! nothing.
 ghost use Rattle.constraint.specs.Laws.{NoneIsToldOfValidRows};
 
 /// No constraint is told exactly where no row has a fault and none clashes with another one.

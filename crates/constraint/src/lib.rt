@@ -1,8 +1,9 @@
 //! Whether rows of one table meet its constraints.
 //!
-//! `check_row` looks at one row by itself: NULL in a NOT NULL column, then the checks. `validate` looks at all rows of a
-//! table, as before a version stands alone: the rows one by one, then the unique constraints, and tells the constraint
-//! that isn't met with a row's key. The other public functions are their parts, for callers that keep rows otherwise.
+//! `check_row` looks at one row by itself: NULL in a NOT NULL column, then the checks. `validate`
+//! looks at all rows of a table, as before a version stands alone: the rows one by one, then the
+//! unique constraints, and tells the constraint that isn't met with a row's key. The other public
+//! functions are their parts, for callers that keep rows otherwise.
 #![tactic(auto)]
 
 mod clashes;

@@ -25,8 +25,8 @@ fn check_name(shape: &Shape, at: u64) -> &[u8]
     }
 }
 
-/// The name of the NOT NULL constraint of the column at this place: `<table>_<column>_not_null`. An error is want of
-/// memory.
+/// The name of the NOT NULL constraint of the column at this place: `<table>_<column>_not_null`. An
+/// error is want of memory.
 pub fn not_null_name(
     alloc: Global,
     table: &Name,
@@ -42,7 +42,8 @@ pub fn not_null_name(
     Name::from_slice(alloc, name.as_slice())
 }
 
-/// The name of the constraint that a row of this table doesn't meet, by its fault. An error is want of memory.
+/// The name of the constraint that a row of this table doesn't meet, by its fault. An error is want
+/// of memory.
 pub fn broken_name(
     alloc: Global,
     table: &Name,

@@ -36,7 +36,8 @@ fn first_broken(
     rows: &[Keyed],
 ) -> Result<Option<(Name, i64)>, NoMemory>
     requires { length shape.now.columns ≤ max_columns }
-    ensures { IfOk result (λ broken. broken ≡ spec.first_some (spec.row_broken table.now shape.now) rows.now) }
+    ensures { IfOk result (λ broken. broken
+        ≡ spec.first_some (spec.row_broken table.now shape.now) rows.now) }
 {
     for row in rows {
         let broken = row_broken(alloc, table, shape, row)?;
@@ -84,7 +85,8 @@ fn uniques_broken(
     uniques: &[Unique],
     rows: &[Keyed],
 ) -> Result<Option<(Name, i64)>, NoMemory>
-    ensures { IfOk result (λ broken. broken ≡ spec.first_some (spec.unique_broken rows.now) uniques.now) }
+    ensures { IfOk result (λ broken. broken
+        ≡ spec.first_some (spec.unique_broken rows.now) uniques.now) }
 {
     for unique in uniques {
         let broken = unique_broken(alloc, unique, rows)?;
@@ -95,11 +97,12 @@ fn uniques_broken(
     Ok(None)
 }
 
-/// The constraint that rows of a table don't meet, with a key, or none: the first fault of a row, by the rows' order;
-/// else, of the unique constraints in their order, the first with equal values, and the least key that has an equal.
+/// The constraint that rows of a table don't meet, with a key, or none: the first fault of a row,
+/// by the rows' order; else, of the unique constraints in their order, the first with equal values,
+/// and the least key that has an equal. This order is our own.
 ///
-/// `table` is the table's name on the side that is looked at. Rows stand by ascending key. The shape has at most 32
-/// columns, as each well-formed one has. An error is want of memory.
+/// `table` is the table's name on the side that is looked at. Rows stand by ascending key. The
+/// shape has at most 32 columns, as each well-formed one has. An error is want of memory.
 pub fn validate(
     alloc: Global,
     table: &Name,

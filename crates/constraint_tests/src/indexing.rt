@@ -5,8 +5,8 @@ ghost use Rattle.std.specs.FinMap as map;
 use sql_base::{List, NoMemory, Value};
 use uniq_index::UniqIndex;
 
-/// Puts values under a key, and gives those that were there. An error is want of memory, and then the values are as they
-/// were.
+/// Puts values under a key, and gives those that were there. An error is want of memory, and then
+/// the values are as they were.
 pub fn put(
     index: &mut UniqIndex,
     key: i64,

@@ -13,8 +13,9 @@ use std::alloc::Global;
 use std::test::Fail;
 use uniq_index::UniqIndex;
 
-// Of each case the third column, which takes NULL where a `?` stands behind it; the checks, of which `x` is `x > 0` and
-// `/x` is `1 / x > 0`; a row; and its fault. The columns before it are `id`, the key, and `name`, which isn't nullable.
+// Of each case the third column, which takes NULL where a `?` stands behind it; the checks, of
+// which `x` is `x > 0` and `/x` is `1 / x > 0`; a row; and its fault. The columns before it are `id`,
+// the key, and `name`, which isn't nullable.
 const FAULTS: [(&str, &str, &str, Option<RowFault>); 11] = [
     ("age", "", "1 a 0", None),
     ("age", "age", "1 a 5", None),
@@ -34,7 +35,8 @@ const FAULTS: [(&str, &str, &str, Option<RowFault>); 11] = [
     ("age", "id age", "1 a -1", Some(RowFault::Check(1))),
 ];
 
-// Of each case the third column, the checks, the columns of unique constraints, rows, and what isn't met with its key.
+// Of each case the third column, the checks, the columns of unique constraints, rows, and what
+// isn't met with its key.
 const TABLES: [(&str, &str, &str, &str, &str); 11] = [
     ("age", "age", "", "1 a 0;2 b 0;3 c 0", "users_age 1"),
     ("age", "age", "", "1 a 1;2 b 0;3 c 0", "users_age 2"),
@@ -49,7 +51,13 @@ const TABLES: [(&str, &str, &str, &str, &str); 11] = [
         "users_code_key 3",
     ),
     ("code?", "", "code", "1 a NULL;2 a NULL;3 b x", ""),
-    ("code?", "", "code", "1 a x;2 a y;3 b y;4 c x", "users_code_key 1"),
+    (
+        "code?",
+        "",
+        "code",
+        "1 a x;2 a y;3 b y;4 c x",
+        "users_code_key 1",
+    ),
     (
         "code?",
         "",
@@ -105,11 +113,7 @@ fn number(n: i64) -> Expr {
 }
 
 fn operation(alloc: Global, op: BinOp, left: Expr, right: Expr) -> Result<Expr, NoMemory> {
-    Ok(Expr::Bin(
-        op,
-        Boxed::new(alloc, left)?,
-        Boxed::new(alloc, right)?,
-    ))
+    Ok(Expr::Bin(op, Boxed::new(alloc, left)?, Boxed::new(alloc, right)?))
 }
 
 fn check(alloc: Global, word: &str) -> Result<Check, NoMemory> {
@@ -258,7 +262,10 @@ fn a_key_clashes_with_the_least_other(rt: HostRuntime) -> Result<(), Fail> {
     let code = unique(rt.alloc(), "code")?;
     let rows = rows(rt.alloc(), "1 a NULL;2 a NULL;3 b x;4 c x;5 d x;6 e y")?;
     let found = |key: i64| clash(&code, rows.as_slice(), key);
-    assert_eq!(rt; (found(1), found(2), found(6), found(7)), (None, None, None, None));
+    assert_eq!(rt;
+        (found(1), found(2), found(6), found(7)),
+        (None, None, None, None)
+    );
     assert_eq!(rt; (found(3), found(4), found(5)), (Some(4), Some(3), Some(3)));
     Ok(())
 }
@@ -278,10 +285,19 @@ fn an_index_finds_the_least_other_key(rt: HostRuntime) -> Result<(), Fail> {
     let mut index = three_codes(rt.alloc())?;
     let x = values(rt.alloc(), "x")?;
     let none = values(rt.alloc(), "NULL")?;
-    assert_eq!(rt; (index.clash(x.as_slice(), 4), index.clash(x.as_slice(), 3)), (Some(3), None));
-    assert_eq!(rt; (index.clash(none.as_slice(), 4), index.clash(&[], 4)), (None, None));
+    assert_eq!(rt;
+        (index.clash(x.as_slice(), 4), index.clash(x.as_slice(), 3)),
+        (Some(3), None)
+    );
+    assert_eq!(rt;
+        (index.clash(none.as_slice(), 4), index.clash(&[], 4)),
+        (None, None)
+    );
     assert!(rt; put(&mut index, 4, values(rt.alloc(), "x")?)?.is_none());
-    assert_eq!(rt; (index.clash(x.as_slice(), 4), index.clash(x.as_slice(), 3)), (Some(3), Some(4)));
+    assert_eq!(rt;
+        (index.clash(x.as_slice(), 4), index.clash(x.as_slice(), 3)),
+        (Some(3), Some(4))
+    );
     assert!(rt; put(&mut index, 1, values(rt.alloc(), "x")?)?.is_some());
     assert_eq!(rt; index.clash(x.as_slice(), 4), Some(1));
     Ok(())

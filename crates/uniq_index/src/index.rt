@@ -9,10 +9,12 @@ use sql_base::{List, NoMemory, Value};
 use std::alloc::Global;
 use std::marker::Model;
 
-/// The values that a table's rows have in the columns of one unique constraint, each row's under its key.
+/// The values that a table's rows have in the columns of one unique constraint, each row's under
+/// its key.
 ///
-/// Contracts see the map from keys to values, and beside it how many new keys may be put before memory is asked for
-/// again (`spare`). That the entries lie in the order of their keys is kept by the type of the store that has them.
+/// Contracts see the map from keys to values, and beside it how many new keys may be put before
+/// memory is asked for again (`spare`). That the entries lie in the order of their keys is kept by
+/// the type of the store that has them.
 #[derive(Drop)]
 pub struct UniqIndex {
     entries: RowStore,
@@ -54,7 +56,8 @@ impl UniqIndex {
         self.entries.reserve(n)
     }
 
-    /// Puts values under a key, and gives those that were there. There must be room, or values under the key.
+    /// Puts values under a key, and gives those that were there. There must be room, or values
+    /// under the key.
     pub fn put_reserved(&mut self, key: i64, values: List<Value>) -> Option<List<Value>>
         requires { IsNone (map.get self.old.entries key) → 1 ≤ self.old.spare }
         ensures former { result ≡ map.get self.old.entries key }

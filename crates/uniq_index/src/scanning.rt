@@ -25,7 +25,8 @@ fn are_alike(one: &[Value], two: &[Value]) -> bool
     true
 }
 
-// The key of the entry at this place, where it is another one than this, and the entry has these values.
+// The key of the entry at this place, where it is another one than this, and the entry has these
+// values.
 fn key_at(entries: &RowStore, at: usize, values: &[Value], key: i64) -> Option<i64>
     ensures { result ≡ spec.key_at values.now key (slice_get (map.entries entries.now.rows) at) }
 {
@@ -35,7 +36,8 @@ fn key_at(entries: &RowStore, at: usize, values: &[Value], key: i64) -> Option<i
     }
 }
 
-/// The least key, other than this one, that has these values, none of them NULL. Keys rise, so the first is the least.
+/// The least key, other than this one, that has these values, none of them NULL. Keys rise, so the
+/// first is the least.
 pub fn least_clash(entries: &RowStore, values: &[Value], key: i64) -> Option<i64>
     ensures { result ≡ clash_in entries.now.rows values.now key }
 {
