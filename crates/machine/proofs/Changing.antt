@@ -12,7 +12,7 @@ use Rattle.machine.specs.Words.{Change, Job, Kept, State}
 use Rattle.machine.specs.Below.{Below}
 use Rattle.machine.proofs.FoundSites.{row_off_site, row_on_site, site_stands}
 use Rattle.machine.proofs.Moving.{each_both, each_so}
-use Rattle.machine.proofs.Placing.{changed_ascend, changed_each}
+use Rattle.machine.proofs.Placing.{changed_each}
 use Rattle.machine.proofs.Replacing.{each_row, refilled_stands, replaced_stands, rows_each, rows_so, rows_stand}
 use Rattle.machine.proofs.SiteChanges.{changes_stand}
 
@@ -65,7 +65,7 @@ module _ (below : Below) (s : State) (stands : IsState s) (found : Found) (f : T
       let number = number_of found.table in
       let rows = rows_of s number in
       let after = rows_off_site (after_changes all rows) (changed_rows what some all j each_stands h) in
-      replaced_stands s number (after_changes all rows) stands (changed_ascend all rows (rows_stand s number stands).0) after.0 after.1 few
+      replaced_stands s number (after_changes all rows) stands (below.order all rows (rows_stand s number stands).0) after.0 after.1 few
 
   pub refilled_so : (what : Job) (some : List Kept) (all : List Change) → JobStands (shape_of found.table) what → Each (SiteRow (LostIn s) (site_of s found)) some → changes (site_of s found) what some ≡ Ok all
       → length (after_changes all (rows_of s (number_of found.table))) ≤ length (rows_of s (number_of found.table)) → IsState (with_rows s (number_of found.table) (after_changes all (rows_of s (number_of found.table))))
@@ -73,4 +73,4 @@ module _ (below : Below) (s : State) (stands : IsState s) (found : Found) (f : T
       let number = number_of found.table in
       let rows = rows_of s number in
       let after = rows_off_site (after_changes all rows) (changed_rows what some all j each_stands h) in
-      refilled_stands s number (after_changes all rows) stands (changed_ascend all rows (rows_stand s number stands).0) after.0 after.1 few
+      refilled_stands s number (after_changes all rows) stands (below.order all rows (rows_stand s number stands).0) after.0 after.1 few

@@ -17,7 +17,7 @@ use Rattle.mig_lens.specs.Plan.{Table}
 use Rattle.sql_base.specs.Laws.{either_none}
 use Rattle.machine.proofs.Choosing.{eq_self, eq_turns}
 use Rattle.machine.proofs.Moving.{each_both, each_so, map_each}
-use Rattle.machine.proofs.Placing.{Above, above_fresh, above_less, ascends_above, ascends_rest, changed_ascend, changed_each, neither}
+use Rattle.machine.proofs.Placing.{Above, above_fresh, above_less, ascends_above, ascends_rest, changed_each, neither}
 use Rattle.row_rules.specs.declared.kinds.Kept.{Kept}
 use Rattle.row_rules.specs.declared.kinds.Cause.{Cause}
 use Rattle.row_rules.specs.declared.kinds.Change.{Change}
@@ -249,15 +249,15 @@ put_quiet unique entries (Put row ∷ all) h = (h.0, put_quiet unique entries al
 put_quiet unique entries (Remove key ∷ all) h = put_quiet unique entries all h.1
 
 -- Where the older rows don't collide, and no row that was put does with any, no row does.
-changed_quiet : (unique : Unique) (side : Side) (all : List Change) (older : List Kept) → Ascends older → Quiet unique (present side older) (keys_of older) → Quiet unique (present side (after_changes all older)) (keys_changed all) → Quiet unique (present side (after_changes all older)) (keys_of (after_changes all older))
-changed_quiet unique side all older a before looked =
+changed_quiet : (unique : Unique) (side : Side) (all : List Change) (older : List Kept) → Ascends older →
+    Ascends (after_changes all older) → Quiet unique (present side older) (keys_of older) →
+    Quiet unique (present side (after_changes all older)) (keys_changed all) →
+    Quiet unique (present side (after_changes all older)) (keys_of (after_changes all older))
+changed_quiet unique side all older a ascend before looked =
     rows_quiet unique side rows ascend (each_from (λ row. list_any (collides unique side row) rows ≡ false) rows (λ row here. any_from (collides unique side row) rows (each_from (λ other. collides unique side row other ≡ false) rows (λ other there. apart row here other there))))
   where
     rows : List Kept
     rows = after_changes all older
-
-    ascend : Ascends rows
-    ascend = changed_ascend all older a
 
     new_apart : (row : Kept) → IsAmong rows row → IsAmong (rows_put all) row → (other : Kept) → IsAmong rows other → collides unique side row other ≡ false
     new_apart row here is_new other there =
@@ -274,10 +274,13 @@ changed_quiet unique side all older a before looked =
         (λ was. ⊎_elim (λ other_new. collides_turns unique side row other ∙ new_apart other there other_new row here) (λ other_was. older_apart row was other other_was) (each_at (Comes (rows_put all) older) rows other (each_comes all older) there))
         (each_at (Comes (rows_put all) older) rows row (each_comes all older) here)
 
-pub changed_without_clash : (table : Option Table) (side : Side) (all : List Change) (older : List Kept) → Ascends older → clashes_on table side older (keys_of older) ≡ None → clashes_on table side (after_changes all older) (keys_changed all) ≡ None → clashes_on table side (after_changes all older) (keys_of (after_changes all older)) ≡ None
-changed_without_clash None side all older a before looked = refl
-changed_without_clash (Some table) side all older a before looked =
+pub changed_without_clash : (table : Option Table) (side : Side) (all : List Change) (older : List Kept) →
+    Ascends older → Ascends (after_changes all older) → clashes_on table side older (keys_of older) ≡ None →
+    clashes_on table side (after_changes all older) (keys_changed all) ≡ None →
+    clashes_on table side (after_changes all older) (keys_of (after_changes all older)) ≡ None
+changed_without_clash None side all older a ascend before looked = refl
+changed_without_clash (Some table) side all older a ascend before looked =
     let uniques = (shape_of table).uniques in
     let rows = after_changes all older in
     no_cause (present side rows) (keys_of rows) uniques
-    (each_both (λ unique. Quiet unique (present side older) (keys_of older)) (λ unique. Quiet unique (present side rows) (keys_changed all)) (λ unique. Quiet unique (present side rows) (keys_of rows)) (λ unique. changed_quiet unique side all older a) uniques (all_quiet (present side older) (keys_of older) uniques before) (all_quiet (present side rows) (keys_changed all) uniques looked))
+    (each_both (λ unique. Quiet unique (present side older) (keys_of older)) (λ unique. Quiet unique (present side rows) (keys_changed all)) (λ unique. Quiet unique (present side rows) (keys_of rows)) (λ unique. changed_quiet unique side all older a ascend) uniques (all_quiet (present side older) (keys_of older) uniques before) (all_quiet (present side rows) (keys_changed all) uniques looked))

@@ -1,13 +1,12 @@
 -- Completing leads from a state that stands to one.
-use Rattle.std.proofs.Common.{◌≡◌, ◌∙◌, inl, inr, ℕ, ◌≤◌, ℤ, List, [], ◌∷◌, true, false, cond, Option, Some, None, length, map, ap, refl, sym, subst}
+use Rattle.std.proofs.Common.{◌≡◌, ◌∙◌, inl, inr, ℕ, ◌≤◌, ℤ, List, [], ◌∷◌, Bool, true, false, ◌||◌, cond, Option, Some, None, length, map, ap, refl, sym, subst, arith}
 use Rattle.std.specs.Prelude.{◌==◌, is_none, is_some, nat_eq, sum_by}
-use Rattle.std.specs.List.{AllByRecursion as Each, filter, list_any}
+use Rattle.std.specs.List.{AllByRecursion as Each, filter, list_all, list_any}
 use Rattle.std.specs.Option.{option_and_then, option_map, option_map_or}
 use Rattle.std.proofs.lemmas.List.{length-map}
 use Rattle.sql_base.specs.declared.shapes.Schema.{Schema}
 use Rattle.sql_base.specs.declared.values.Value.{Value}
 use Rattle.sql_eval.specs.Row.{least}
-use Rattle.mig_lens.specs.declared.columns.Lens.{Lens}
 use Rattle.mig_lens.specs.declared.columns.Side.TheVariants.{New}
 use Rattle.mig_lens.specs.declared.faults.Kind.TheVariants as kind
 use Rattle.mig_lens.specs.declared.faults.Refusal.{Refusal}
@@ -19,17 +18,18 @@ use Rattle.machine.specs.declared.states.Mode.{Mode}
 use Rattle.machine.specs.declared.states.Mode.TheVariants.{Calm, Both}
 use Rattle.machine.specs.declared.states.State.{State}
 use Rattle.machine.specs.State.{Shared, lens_among, row_count, rows_of, shared, table_on}
-use Rattle.row_rules.specs.Site.{name_of}
+use Rattle.row_rules.specs.Site.{name_of, number_of}
 use Rattle.machine.specs.Statement.{max_rows}
 use Rattle.machine.specs.Migrate.{complete, completed, completed_row, finish, invalid, may_not_complete, not_filled, not_filled_in, not_valid, numbers_of, stepped, table_without_loss, tidied, without_loss}
-use Rattle.machine.specs.Standing.{HalfStands, IsState, ModeStands, NewStands, NewerStands, NoneLost, NumbersAscend, RowStands, StepsStand, TablesStand, VersionStands, may_lose, may_miss}
+use Rattle.machine.specs.Standing.{HalfStands, IsState, ModeStands, NewStands, NewerStands, NoneLost, NumbersAscend, RowStands, StepsStand, VersionStands, is_known, may_lose, may_miss}
 use Rattle.machine.proofs.Outcomes.{Holds, Stands, holds_without}
-use Rattle.machine.proofs.Replacing.{row_carries}
+use Rattle.machine.proofs.Pairs.{each_numbered}
+use Rattle.machine.proofs.Replacing.{row_carries, rows_each, rows_stand}
 use Rattle.machine.proofs.Tidying.{completing_so, emptied, ended, tidied_so}
 use Rattle.machine.proofs.SiteHalves.{new_half}
-use Rattle.machine.proofs.Joining.{Pair, on_new, paired}
-use Rattle.sql_base.specs.Laws.{either_none}
-use Rattle.machine.proofs.Moving.{Carries, IsFound, Rows, ascends_mapped, counts_kept, each, each_among, each_both, each_found, each_so, filter_all, map_each, numbers, numbers_kept, rows_mapped, tables_mapped, tables_moved}
+use Rattle.machine.proofs.Joining.{on_new}
+use Rattle.sql_base.specs.Laws.{all_true, both, either_none}
+use Rattle.machine.proofs.Moving.{Carries, IsFound, Rows, among_filtered, ascends_mapped, counts_filtered, counts_kept, each, each_both, each_found, each_so, filter_each, filter_so, map_each, number_each, numbers, numbers_filtered, numbers_kept, rows_mapped, tables_filtered, tables_mapped, tables_moved}
 
 -- ---- tidying
 
@@ -60,6 +60,7 @@ emptied_stands s stands is =
       version = subst (λ ns. VersionStands s.schema ns s.next_table) (sym same_numbers) stands.version;
       mode = calm_mode s t s.mode is stands.mode;
       numbers = subst NumbersAscend (sym same_numbers) stands.numbers;
+      known = subst (λ ns. list_all (is_known s) ns ≡ true) (sym same_numbers) stands.known;
       tables = tables_mapped s t table_without_loss s.tables (each (Carries s t table_without_loss) (kept_table s) s.tables) stands.tables;
       few = subst (λ n. n ≤ max_rows) (sym same_count) stands.few;
       lost = λ none. record { columns = refl; rows = map_each table_without_loss (λ table. NoneLost table.1) s.tables (each (λ table. NoneLost (table_without_loss table).1) (λ table. nothing_lost table.1) s.tables) };
@@ -74,6 +75,7 @@ ended_stands s stands is left =
       version = stands.version;
       mode = calm_mode s t s.mode is stands.mode;
       numbers = stands.numbers;
+      known = stands.known;
       tables = tables_moved s t (row_carries s t refl refl) s.tables stands.tables;
       few = stands.few;
       lost = λ _. record { columns = (stands.lost none).columns; rows = (stands.lost none).rows };
@@ -129,52 +131,86 @@ completed_row_stands s name schema fates is number row filled stands =
       new = alone (table_numbered schema number) row.key;
     }
 
--- A table that both versions have.
-abbrev pub IsPaired : State → Rows → Type 0
-IsPaired s table = (lens : Lens) × Pair s table.0 lens
+-- A half stands only where it is there.
+half_there : (table : Option Table) (key : ℤ) (half : Option (List Value)) → is_some table ≡ true →
+    HalfStands table key half → is_some half ≡ true
+half_there None key half has h = cc
+half_there (Some table) key None has h = absurd h
+half_there (Some table) key (Some values) has h = refl
 
-pub all_paired : (s : State) (name : List ℕ) (schema : Schema) (fates : List (ℕ × Fate)) → s.mode ≡ Both name schema fates → NewerStands s name schema fates → Each (IsPaired s) s.tables
-all_paired s name schema fates is newer = each_so (λ u. list_any (nat_eq u.0) (numbers_of s) ≡ true) (IsPaired s) pair s.tables (each_among s.tables)
+-- Where the new version has a table and none of its rows is still to be filled, each has its new half.
+rows_filled : (s : State) (number : ℕ) → IsState s → is_some (table_on s New number) ≡ true →
+    not_filled_in s number ≡ None → Each IsFilled (rows_of s number)
+rows_filled s number stands has none = by_pair (shared s number) refl
   where
-    pair : (u : Rows) → list_any (nat_eq u.0) (numbers_of s) ≡ true → IsPaired s u
-    pair u among =
-        let kept = newer.kept u.0 among in
-        (kept.0, paired s name schema fates is u.0 kept.0 kept.1 (newer.joined u.0 kept.0 kept.1))
+    by_pair : (found : Option Shared) → shared s number ≡ found → Each IsFilled (rows_of s number)
+    by_pair (Some pair) is = filled_in s number pair (rows_of s number) is refl none
+    by_pair None is =
+        each_so (RowStands s number) IsFilled
+        (λ row r. half_there (table_on s New number) row.key row.halves.new has (subst (λ pair. NewStands (may_miss pair) (table_on s New number) row.key row.halves.new) is r.new))
+        (rows_of s number) (rows_each s number (rows_of s number) (rows_stand s number stands).1)
 
-pub whole_tables : (s : State) → NumbersAscend (numbers_of s) → Each (IsPaired s) s.tables → not_filled s (numbers_of s) ≡ None → Each (λ table. Each IsFilled table.1) s.tables
-whole_tables s ascend pairs none =
-    each_both (IsFound s.tables) (λ u. IsPaired s u × (not_filled_in s u.0 ≡ None)) (λ u. Each IsFilled u.1) whole s.tables (each_found s.tables ascend)
-    (each_both (IsPaired s) (λ u. not_filled_in s u.0 ≡ None) (λ u. IsPaired s u × (not_filled_in s u.0 ≡ None)) (λ u p q. (p, q)) s.tables pairs (all_filled s s.tables none))
+abbrev pub IsWhole : State → Rows → Type 0
+IsWhole s table = is_some (table_on s New table.0) ≡ true → Each IsFilled table.1
+
+pub whole_tables : (s : State) → IsState s → not_filled s (numbers_of s) ≡ None → Each (IsWhole s) s.tables
+whole_tables s stands none =
+    each_both (IsFound s.tables) (λ u. not_filled_in s u.0 ≡ None) (IsWhole s) whole s.tables (each_found s.tables stands.numbers) (all_filled s s.tables none)
   where
-    whole : (u : Rows) → IsFound s.tables u → IsPaired s u × (not_filled_in s u.0 ≡ None) → Each IsFilled u.1
-    whole u found h =
-        let pair = h.0.1 in
-        filled_in s u.0 (record { old = pair.old; new = pair.new; lens = h.0.0 }) u.1 pair.is_shared (ap (λ f. option_map_or (λ table. table.1) f []) found) h.1
+    whole : (u : Rows) → IsFound s.tables u → not_filled_in s u.0 ≡ None → IsWhole s u
+    whole u found none has = subst (Each IsFilled) (ap (λ f. option_map_or (λ table. table.1) f []) found) (rows_filled s u.0 stands has none)
+
+-- Whether a table stays: the new version has it.
+abbrev stays : Schema → Rows → Bool
+stays schema = λ table. is_some (table_numbered schema table.0)
+
+-- Each table of the version has its rows among those that stay.
+still_has : (schema : Schema) (tables : List Rows) (some : List Table) →
+    Each (λ table. is_some (table_numbered schema (number_of table)) ≡ true) some →
+    list_all (λ table. list_any (nat_eq (number_of table)) (numbers tables)) some ≡ true →
+    list_all (λ table. list_any (nat_eq (number_of table)) (numbers (filter (stays schema) tables))) some ≡ true
+still_has schema tables [] h all = refl
+still_has schema tables (table ∷ some) h all =
+    let among : Table → List Rows → Bool = λ table tables. list_any (nat_eq (number_of table)) (numbers tables) in
+    let parts = both (among table tables) (list_all (λ table. among table tables) some) all in
+    all_true (among table (filter (stays schema) tables)) (list_all (λ table. among table (filter (stays schema) tables)) some)
+    (among_filtered (λ number. is_some (table_numbered schema number)) (number_of table) h.0 tables parts.0) (still_has schema tables some h.1 parts.1)
+
+-- A table that stays, with its new halves.
+table_completed : (s : State) (name : List ℕ) (schema : Schema) (fates : List (ℕ × Fate)) →
+    s.mode ≡ Both name schema fates → (u : Rows) → IsWhole s u → stays schema u ≡ true →
+    Carries s (completed s name schema fates) (completed_table fates) u
+table_completed s name schema fates is u whole stay ascend stand =
+    let t = completed s name schema fates in
+    let filled = whole (ap is_some (on_new s name schema fates is u.0) ∙ stay) in
+    let one = each_so IsFilled (λ row. RowStands s u.0 row → RowStands t u.0 (completed_row (lens_among fates u.0) row)) (completed_row_stands s name schema fates is u.0) u.1 filled in
+    (ascends_mapped (completed_row (lens_among fates u.0)) (λ row. refl) u.1 ascend, rows_mapped s t u.0 (completed_row (lens_among fates u.0)) u.1 one stand)
 
 completed_state : (s : State) (name : List ℕ) (schema : Schema) (fates : List (ℕ × Fate)) → s.mode ≡ Both name schema fates → IsState s → NewerStands s name schema fates → not_filled s (numbers_of s) ≡ None → IsState (completed s name schema fates)
 completed_state s name schema fates is stands newer none =
     let t = completed s name schema fates in
-    let pairs = all_paired s name schema fates is newer in
-    let whole = whole_tables s stands.numbers pairs none in
-    let stay = each_so (IsPaired s) (λ u. is_some (table_numbered schema u.0) ≡ true) (λ u p. ap is_some (sym (on_new s name schema fates is u.0) ∙ p.1.stands.new)) s.tables pairs in
-    let same_tables : t.tables ≡ map (completed_table fates) s.tables = ap (map (completed_table fates)) (filter_all (λ u. is_some (table_numbered schema u.0)) s.tables stay) in
-    let same_numbers : numbers_of t ≡ numbers_of s = ap numbers same_tables ∙ numbers_kept (completed_table fates) (λ u. refl) s.tables in
-    let same_count : row_count t ≡ row_count s = ap (sum_by (λ u. length u.1)) same_tables ∙ counts_kept (completed_table fates) (λ u. length-map u.1 (completed_row (lens_among fates u.0))) s.tables in
-    let carried = each_so (λ u. Each IsFilled u.1) (Carries s t (completed_table fates)) carries s.tables whole in
+    let left = filter (stays schema) s.tables in
+    let stay = filter_so (stays schema) s.tables in
+    let same_numbers : numbers_of t ≡ numbers left = numbers_kept (completed_table fates) (λ u. refl) left in
+    let same_count : row_count t ≡ sum_by (λ u. length u.1) left = counts_kept (completed_table fates) (λ u. length-map u.1 (completed_row (lens_among fates u.0))) left in
+    let whole = filter_each (stays schema) (IsWhole s) s.tables (whole_tables s stands none) in
+    let carried = each_both (IsWhole s) (λ u. stays schema u ≡ true) (Carries s t (completed_table fates)) (table_completed s name schema fates is) left whole stay in
+    let known : Each (λ u. is_known t u.0 ≡ true) left = each_so (λ u. stays schema u ≡ true) (λ u. is_known t u.0 ≡ true) (λ u h. ap (λ b. b || false) h) left stay in
+    let version : VersionStands schema (numbers left) s.next_table = record {
+      schema_stands = newer.version.schema_stands;
+      rows = still_has schema s.tables schema.tables (each_numbered schema.tables) newer.version.rows;
+      below = newer.version.below;
+    } in
     record {
       steps = inl refl;
-      version = subst (λ ns. VersionStands schema ns s.next_table) (sym same_numbers) newer.version;
+      version = subst (λ ns. VersionStands schema ns s.next_table) (sym same_numbers) version;
       mode = tt;
-      numbers = subst NumbersAscend (sym same_numbers) stands.numbers;
-      tables = subst (TablesStand t) (sym same_tables) (tables_mapped s t (completed_table fates) s.tables carried stands.tables);
-      few = subst (λ n. n ≤ max_rows) (sym same_count) stands.few;
+      numbers = subst NumbersAscend (sym same_numbers) (numbers_filtered (stays schema) s.tables stands.numbers);
+      known = subst (λ ns. list_all (is_known t) ns ≡ true) (sym same_numbers) (number_each (is_known t) left known);
+      tables = tables_mapped s t (completed_table fates) left carried (tables_filtered s (stays schema) s.tables stands.tables);
+      few = let fewer = counts_filtered (stays schema) s.tables in let few = stands.few in omega (arith, same_count, fewer, few);
       lost = λ none. cc;
     }
-  where
-    carries : (u : Rows) → Each IsFilled u.1 → Carries s (completed s name schema fates) (completed_table fates) u
-    carries u whole ascend stand =
-        let one = each_so IsFilled (λ row. RowStands s u.0 row → RowStands (completed s name schema fates) u.0 (completed_row (lens_among fates u.0) row)) (completed_row_stands s name schema fates is u.0) u.1 whole in
-        (ascends_mapped (completed_row (lens_among fates u.0)) (λ row. refl) u.1 ascend, rows_mapped s (completed s name schema fates) u.0 (completed_row (lens_among fates u.0)) u.1 one stand)
 
 -- ---- every step of completing
 

@@ -74,7 +74,7 @@ both_sides New here there lost rows keys h =
     let parts = either_none (clashes_on (Some here) New rows keys) (clashes_on (option_map {U = Table} (λ (beside : Beside). beside.table) there) Old rows keys) h in
     record { old_side = parts.1; new_side = parts.0 }
 
-module _ (s : State) (stands : IsState s) (lawful : IsLawful s) (found : Found) (f : TableStands s found) where
+module _ (below : Below) (s : State) (stands : IsState s) (lawful : IsLawful s) (found : Found) (f : TableStands s found) where
   sound_lawful : (row : Kept) → IsSound (site_of s found) row → IsLawfulRow s (number_of found.table) row
   sound_lawful row h =
       let site = site_of s found in
@@ -102,7 +102,7 @@ module _ (s : State) (stands : IsState s) (lawful : IsLawful s) (found : Found) 
       let put = each_so (OfPut (IsSound site)) (OfPut (IsLawfulRow s number)) as_put all (changes_sound site what some all made) in
       record {
         rows = with_rows_lawful s number rows lawful.rows (changed_each (IsLawfulRow s number) all older put (rows_lawful s number lawful.rows));
-        unique = changed_unique s number all (rows_stand s number stands).0 lawful.unique
+        unique = changed_unique s number all (rows_stand s number stands).0 (below.order all older (rows_stand s number stands).0) lawful.unique
             (subst (λ table. clashes_on table Old rows (keys_changed all) ≡ None) at.old quiet.old_side)
             (subst (λ table. clashes_on table New rows (keys_changed all) ≡ None) at.new quiet.new_side);
       }
@@ -112,8 +112,9 @@ module _ (s : State) (stands : IsState s) (lawful : IsLawful s) (found : Found) 
 abbrev Lawful : Reply → State → Type 0
 Lawful reply t = IsLawful t
 
-found_written : (s : State) (what : Job) (found : Found) → IsState s → IsLawful s → TableStands s found → Holds Lawful (written s (site_of s found) what)
-found_written s what found stands lawful f =
+found_written : Below → (s : State) (what : Job) (found : Found) → IsState s → IsLawful s →
+    TableStands s found → Holds Lawful (written s (site_of s found) what)
+found_written below s what found stands lawful f =
     let site = site_of s found in
     let rows = rows_of s (number_of found.table) in
     holds_then Lawful (map_fault (λ (cause : Cause). error_reply (row_error cause)) (changes site what rows)) (settled s site what)
@@ -121,16 +122,17 @@ found_written s what found stands lawful f =
     (λ none.
     let together = map_none error_reply (refused_together site what rows all) (either_none (option_map error_reply (refused_together site what rows all)) (too_many s site all) none).0 in
     let quiet = map_none row_error (cause_together site what rows all) (either_none (option_map row_error (cause_together site what rows all)) (if nat_lt max_total (total_weight (rows_put all)) then Some heavy_statement else None) together).0 in
-    changed_lawful s stands lawful found f what rows all (map_fault_ok (λ (cause : Cause). error_reply (row_error cause)) (changes site what rows) all made) quiet))
+    changed_lawful below s stands lawful found f what rows all (map_fault_ok (λ (cause : Cause). error_reply (row_error cause)) (changes site what rows) all made) quiet))
 
-finished_lawful : (s : State) (b : Begun) → IsState s → IsLawful s → BegunStands s b → Holds Lawful (finished s b)
-finished_lawful s (Writes site what) stands lawful w = subst (λ site. Holds Lawful (written s site what)) (sym w.0.is) (found_written s what w.0.found stands lawful w.0.stands)
-finished_lawful s (Shows site items condition) stands lawful w =
+finished_lawful : Below → (s : State) (b : Begun) → IsState s → IsLawful s → BegunStands s b →
+    Holds Lawful (finished s b)
+finished_lawful below s (Writes site what) stands lawful w = subst (λ site. Holds Lawful (written s site what)) (sym w.0.is) (found_written below s what w.0.found stands lawful w.0.stands)
+finished_lawful below s (Shows site items condition) stands lawful w =
     holds_then Lawful (map_fault error_reply (rows_shown site items condition max_reply (rows_of s (number_of site.here)))) (λ rows. Ok (answered s (Select rows))) (λ rows e. lawful)
-finished_lawful s Sets stands lawful w = lawful
+finished_lawful below s Sets stands lawful w = lawful
 
 line_lawful : Below → (s : State) (path : List (List ℕ)) (reading : Reading) → IsState s → IsLawful s → Holds Lawful (line_outcome s path reading)
-line_lawful below s path (Read stmt) stands lawful = holds_then Lawful (begun s path stmt) (finished s) (λ b e. finished_lawful s b stands lawful (begun_stands below s path stmt b stands e))
+line_lawful below s path (Read stmt) stands lawful = holds_then Lawful (begun s path stmt) (finished s) (λ b e. finished_lawful below s b stands lawful (begun_stands below s path stmt b stands e))
 line_lawful below s path TooLong stands lawful = tt
 line_lawful below s path Syntax stands lawful = tt
 line_lawful below s path Wide stands lawful = tt
@@ -151,20 +153,22 @@ begun_lawful s (Migrates m) lawful =
 
 -- ---- FILL
 
-batch_lawful : (s : State) (pair : Shared) (rows : List Kept) → IsState s → IsLawful s → TableStands s (record { side = New; table = pair.new }) → Holds Lawful (batch s pair rows)
-batch_lawful s pair rows stands lawful f =
+batch_lawful : Below → (s : State) (pair : Shared) (rows : List Kept) → IsState s → IsLawful s →
+    TableStands s (record { side = New; table = pair.new }) → Holds Lawful (batch s pair rows)
+batch_lawful below s pair rows stands lawful f =
     let site = filling_site s pair in
     let older = rows_of s (number_of pair.new) in
     holds_then Lawful (map_fault (refused_batch (name_of pair.new)) (changes site job.Fill rows)) (batch_settled s pair)
     (λ all e. holds_without Lawful (option_map (refused_batch (name_of pair.new)) (cause_together site job.Fill older all)) (changed s site job.Fill all)
-    (λ none. changed_lawful s stands lawful (record { side = New; table = pair.new }) f job.Fill rows all (map_fault_ok (refused_batch (name_of pair.new)) (changes site job.Fill rows) all e) (map_none (refused_batch (name_of pair.new)) (cause_together site job.Fill older all) none)))
+    (λ none. changed_lawful below s stands lawful (record { side = New; table = pair.new }) f job.Fill rows all (map_fault_ok (refused_batch (name_of pair.new)) (changes site job.Fill rows) all e) (map_none (refused_batch (name_of pair.new)) (cause_together site job.Fill older all) none)))
 
-filled_lawful : (s : State) (number : ℕ) (keys : List ℤ) → IsState s → IsLawful s → Holds Lawful (fill_keys s number keys)
-filled_lawful s number keys stands lawful = by_pair (shared s number) refl
+filled_lawful : Below → (s : State) (number : ℕ) (keys : List ℤ) → IsState s → IsLawful s →
+    Holds Lawful (fill_keys s number keys)
+filled_lawful below s number keys stands lawful = by_pair (shared s number) refl
   where
     by_pair : (found : Option Shared) → shared s number ≡ found → Holds Lawful (option_map_or {U = CommandOutcome} (λ pair. batch s pair (rows_at keys (rows_of s number))) found (Ok (answered s Filled)))
     by_pair None is = lawful
-    by_pair (Some pair) is = batch_lawful s pair (rows_at keys (rows_of s number)) stands lawful (new_stands s number pair stands is).1
+    by_pair (Some pair) is = batch_lawful below s pair (rows_at keys (rows_of s number)) stands lawful (new_stands s number pair stands is).1
 
 -- ---- COMPLETE
 
@@ -196,7 +200,7 @@ steps_keep_laws below s what reply t step stands lawful =
       refused = λ reply. lawful;
       line = λ path reading. line_lawful below s path reading stands lawful;
       start = λ asked. begun_lawful s asked lawful;
-      some = λ number chosen _. filled_lawful s number (filter chosen (missing_keys s number)) stands lawful;
+      some = λ number chosen _. filled_lawful below s number (filter chosen (missing_keys s number)) stands lawful;
       complete = complete_lawful s stands lawful;
     }) what reply t step
 

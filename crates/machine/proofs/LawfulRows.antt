@@ -13,20 +13,20 @@ use Rattle.mig_lens.specs.declared.columns.Side.TheVariants.{Old, New}
 use Rattle.mig_lens.specs.declared.plans.Fate.{Fate}
 use Rattle.mig_lens.specs.declared.plans.Plan.{Plan}
 use Rattle.mig_lens.specs.Layout.{has_mark}
-use Rattle.mig_lens.specs.Plan.{Table, table_numbered}
+use Rattle.mig_lens.specs.Plan.{Table, created_in, table_numbered}
 use Rattle.row_rules.specs.Accept.{clashes_on, is_heavy, keys_of, side_cause, weight_cause}
 use Rattle.row_rules.specs.Causes.{max_weight}
 use Rattle.row_rules.specs.Outcome.{first_some}
 use Rattle.row_rules.specs.Steps.{begun_half, begun_row, new_half_cause, shows_heavy}
 use Rattle.machine.specs.Lawful.{HasLawfulRows, IsLawfulRow, RowsLawful}
-use Rattle.machine.specs.Migrate.{begun_table, completed, completed_row, has_heavy, invalid, invalid_in, numbers_of, started, table_without_loss, without_loss}
+use Rattle.machine.specs.Migrate.{begun_table, completed, created_tables, completed_row, has_heavy, invalid, invalid_in, numbers_of, started, table_without_loss, without_loss}
 use Rattle.machine.specs.Standing.{NumbersAscend, may_miss}
-use Rattle.machine.specs.State.{Shared, lens_among, rows_of, shared, table_on, with_rows}
+use Rattle.machine.specs.State.{lens_among, rows_of, shared, table_on, with_rows}
 use Rattle.machine.specs.Words.{Both, Cause, Kept, State}
 use Rattle.machine.proofs.Clashes.{none_each}
 use Rattle.machine.proofs.Completing.{completed_table}
-use Rattle.machine.proofs.Joining.{on_new}
-use Rattle.machine.proofs.Moving.{IsFound, Rows, each_both, each_found, each_so, filter_each, map_each}
+use Rattle.machine.proofs.Joining.{on_new, pair_of}
+use Rattle.machine.proofs.Moving.{IsFound, Rows, each, each_append, each_both, each_found, each_so, filter_each, map_each}
 use Rattle.machine.proofs.Replacing.{replaced_so, rows_so}
 use Rattle.machine.proofs.SettledJobs.{none_first}
 use Rattle.machine.proofs.Tidying.{emptied}
@@ -70,15 +70,13 @@ begun_light lens old h = by_mark (has_mark lens) old h
     by_mark false None h = refl
     by_mark false (Some values) h = h
 
-abbrev pub joined_by : Option Lens → Option Table → Option Table → Option Shared
-joined_by lens old new = option_and_then (λ old. option_and_then (λ new. option_map (λ lens. record { old = old; new = new; lens = lens }) lens) new) old
-
-pub without_lens : (old new : Option Table) → may_miss (joined_by None old new) ≡ false
+pub without_lens : (old new : Option Table) → may_miss (pair_of None old new) ≡ false
 without_lens None new = refl
 without_lens (Some old) None = refl
 without_lens (Some old) (Some new) = refl
 
-pub with_lens : (lens : Lens) (old new : Option Table) → may_miss (joined_by (Some lens) old new) ≡ true → has_mark lens ≡ true
+pub with_lens : (lens : Lens) (old new : Option Table) → may_miss (pair_of (Some lens) old new) ≡ true →
+    has_mark lens ≡ true
 with_lens lens None new h = cc
 with_lens lens (Some old) None h = cc
 with_lens lens (Some old) (Some new) h = h
@@ -87,7 +85,7 @@ with_lens lens (Some old) (Some new) h = h
 unbegun_row : (s : State) (name : List ℕ) (plan : Plan) (number : ℕ) → lens_among plan.fates number ≡ None → (row : Kept) → IsLawfulRow s number row → IsLawfulRow (started s name plan) number row
 unbegun_row s name plan number none row h =
     let t = started s name plan in
-    let no : may_miss (shared t number) ≡ false = ap (λ l. may_miss (joined_by l (table_on t Old number) (table_on t New number))) none ∙ without_lens (table_on t Old number) (table_on t New number) in
+    let no : may_miss (shared t number) ≡ false = ap (λ l. may_miss (pair_of l (table_on t Old number) (table_on t New number))) none ∙ without_lens (table_on t Old number) (table_on t New number) in
     record { old = h.old; new = λ k. absurd (true≢false (sym k ∙ no)); light = h.light }
 
 begun_row_lawful : (s : State) (name : List ℕ) (plan : Plan) (number : ℕ) (lens : Lens) → lens_among plan.fates number ≡ Some lens → (row : Kept) → IsLawfulRow s number row → shows_heavy lens row ≡ false → IsLawfulRow (started s name plan) number (begun_row lens row)
@@ -97,7 +95,7 @@ begun_row_lawful s name plan number lens has row h light =
     record {
       old = h.old;
       new = λ k.
-          let marked : has_mark lens ≡ true = with_lens lens (table_on t Old number) (table_on t New number) (ap (λ l. may_miss (joined_by l (table_on t Old number) (table_on t New number))) (sym has) ∙ k) in
+          let marked : has_mark lens ≡ true = with_lens lens (table_on t Old number) (table_on t New number) (ap (λ l. may_miss (pair_of l (table_on t Old number) (table_on t New number))) (sym has) ∙ k) in
           let missing : begun_half lens old ≡ None = ap (λ b. if b then None else option_map (unfilled lens) old) marked in
           ap (side_cause (table_on t New number) row.key) missing ∙ no_half_cause (table_on t New number) row.key;
       light = light_from (begun_row lens row) (light_parts row h.light).0 (begun_light lens old light);
@@ -114,8 +112,11 @@ begun_table_lawful s name plan u h light = by_lens (lens_among plan.fates u.0) r
 
 pub started_lawful : (s : State) (name : List ℕ) (plan : Plan) → RowsLawful s → list_any (has_heavy plan.fates) s.tables ≡ false → RowsLawful (started s name plan)
 started_lawful s name plan h light =
-    map_each (begun_table plan.fates) (HasLawfulRows (started s name plan)) s.tables
-    (each_both (HasLawfulRows s) (λ u. has_heavy plan.fates u ≡ false) (λ u. HasLawfulRows (started s name plan) (begun_table plan.fates u)) (begun_table_lawful s name plan) s.tables h (none_each (has_heavy plan.fates) s.tables light))
+    let t = started s name plan in
+    each_append (HasLawfulRows t) (map (begun_table plan.fates) s.tables) (created_tables plan.fates)
+    (map_each (begun_table plan.fates) (HasLawfulRows t) s.tables
+    (each_both (HasLawfulRows s) (λ u. has_heavy plan.fates u ≡ false) (λ u. HasLawfulRows (started s name plan) (begun_table plan.fates u)) (begun_table_lawful s name plan) s.tables h (none_each (has_heavy plan.fates) s.tables light)))
+    (map_each {Y = Rows} (λ number. (number, [])) (HasLawfulRows t) (created_in plan.fates) (each (λ number. Unit {0}) (λ number. tt) (created_in plan.fates)))
 
 -- ---- COMPLETE
 

@@ -12,22 +12,22 @@ use Rattle.mig_lens.specs.declared.columns.Side.TheVariants.{Old, New}
 use Rattle.mig_lens.specs.declared.plans.Fate.{Fate}
 use Rattle.mig_lens.specs.declared.plans.Plan.{Plan}
 use Rattle.mig_lens.specs.Layout.{has_mark}
-use Rattle.mig_lens.specs.Plan.{Table, table_numbered}
+use Rattle.mig_lens.specs.Plan.{Table, created_in, table_numbered}
 use Rattle.row_rules.specs.Accept.{clashes_on, keys_of, present, unique_cause}
 use Rattle.row_rules.specs.Changes.{after_changes, keys_changed}
 use Rattle.row_rules.specs.Outcome.{first_some}
 use Rattle.row_rules.specs.Site.{half, shape_of}
 use Rattle.row_rules.specs.Steps.{begun_half, begun_row, new_half_cause}
 use Rattle.machine.specs.Lawful.{HasNoClash}
-use Rattle.machine.specs.Migrate.{begun_table, completed, completed_row, invalid, invalid_in, numbers_of, started, table_without_loss, without_loss}
+use Rattle.machine.specs.Migrate.{begun_table, completed, created_tables, completed_row, invalid, invalid_in, numbers_of, started, table_without_loss, without_loss}
 use Rattle.machine.specs.Standing.{Ascends, NumbersAscend, may_miss}
 use Rattle.machine.specs.State.{lens_among, rows_of, shared, table_on, with_rows}
 use Rattle.machine.specs.Words.{Both, Cause, Change, Kept, State}
 use Rattle.machine.proofs.Clashes.{Quiet, changed_without_clash, no_cause}
 use Rattle.machine.proofs.Completing.{completed_table}
-use Rattle.machine.proofs.Joining.{on_new}
-use Rattle.machine.proofs.LawfulRows.{all_valid, alone_never_misses, joined_by, with_lens, without_lens}
-use Rattle.machine.proofs.Moving.{IsFound, Rows, each_both, each_found, each_so, filter_each, map_each}
+use Rattle.machine.proofs.Joining.{on_new, pair_of}
+use Rattle.machine.proofs.LawfulRows.{all_valid, alone_never_misses, with_lens, without_lens}
+use Rattle.machine.proofs.Moving.{IsFound, Rows, each, each_append, each_both, each_found, each_so, filter_each, map_each}
 use Rattle.machine.proofs.Replacing.{replaced_so, rows_so}
 use Rattle.machine.proofs.Tidying.{emptied}
 
@@ -48,10 +48,14 @@ nothing_clashes (Some table) side rows keys e = ap (λ entries. first_some (uniq
 
 -- ---- a table whose rows are replaced
 
+-- A table without rows.
+empty_unique : (t : State) (number : ℕ) → HasNoClash t (number, [])
+empty_unique t number = record { old = nothing_clashes (table_on t Old number) Old [] [] refl; new = λ _. nothing_clashes (table_on t New number) New [] [] refl }
+
 found_unique : (s : State) (number : ℕ) → Each (HasNoClash s) s.tables → HasNoClash s (number, rows_of s number)
 found_unique s number h =
     rows_so (λ number rows. HasNoClash s (number, rows)) number
-    (record { old = nothing_clashes (table_on s Old number) Old [] [] refl; new = λ _. nothing_clashes (table_on s New number) New [] [] refl }) s.tables h
+    (empty_unique s number) s.tables h
 
 same_versions : (s : State) (tables : List Rows) (table : Rows) → HasNoClash s table → HasNoClash (record s { tables = tables }) table
 same_versions s tables table h = record { old = h.old; new = h.new }
@@ -62,13 +66,17 @@ with_rows_unique s number rows h r =
     each_so (HasNoClash s) (HasNoClash t) (same_versions s t.tables) t.tables (replaced_so (λ number rows. HasNoClash s (number, rows)) number rows r s.tables h)
 
 -- Changes that nothing clashes with.
-pub changed_unique : (s : State) (number : ℕ) (all : List Change) → Ascends (rows_of s number) → Each (HasNoClash s) s.tables → clashes_on (table_on s Old number) Old (after_changes all (rows_of s number)) (keys_changed all) ≡ None → clashes_on (table_on s New number) New (after_changes all (rows_of s number)) (keys_changed all) ≡ None → Each (HasNoClash (with_rows s number (after_changes all (rows_of s number)))) (with_rows s number (after_changes all (rows_of s number))).tables
-changed_unique s number all ascend h old_looked new_looked =
+pub changed_unique : (s : State) (number : ℕ) (all : List Change) → Ascends (rows_of s number) →
+    Ascends (after_changes all (rows_of s number)) → Each (HasNoClash s) s.tables →
+    clashes_on (table_on s Old number) Old (after_changes all (rows_of s number)) (keys_changed all) ≡ None →
+    clashes_on (table_on s New number) New (after_changes all (rows_of s number)) (keys_changed all) ≡ None →
+    Each (HasNoClash (with_rows s number (after_changes all (rows_of s number)))) (with_rows s number (after_changes all (rows_of s number))).tables
+changed_unique s number all ascend after h old_looked new_looked =
     let older = rows_of s number in
     let before = found_unique s number h in
     with_rows_unique s number (after_changes all older) h (record {
-      old = changed_without_clash (table_on s Old number) Old all older ascend before.old old_looked;
-      new = λ k. changed_without_clash (table_on s New number) New all older ascend (before.new k) new_looked;
+      old = changed_without_clash (table_on s Old number) Old all older ascend after before.old old_looked;
+      new = λ k. changed_without_clash (table_on s New number) New all older ascend after (before.new k) new_looked;
     })
 
 -- ---- START
@@ -101,18 +109,22 @@ begun_unique s name plan u h = by_lens (lens_among plan.fates u.0) refl
 
     by_lens : (l : Option Lens) → lens_among plan.fates u.0 ≡ l → HasNoClash t (option_map_or (λ lens. (u.0, map (begun_row lens) u.1)) l u)
     by_lens None e =
-        let no : may_miss (shared t u.0) ≡ false = ap (λ l. may_miss (joined_by l (table_on t Old u.0) (table_on t New u.0))) e ∙ without_lens (table_on t Old u.0) (table_on t New u.0) in
+        let no : may_miss (shared t u.0) ≡ false = ap (λ l. may_miss (pair_of l (table_on t Old u.0) (table_on t New u.0))) e ∙ without_lens (table_on t Old u.0) (table_on t New u.0) in
         record { old = h.old; new = λ k. absurd (true≢false (sym k ∙ no)) }
     by_lens (Some lens) e =
         record {
           old = mapped_clashes (table_on s Old u.0) (begun_row lens) Old Old (λ row. refl) (λ row. refl) u.1 h.old;
           new = λ k.
-              let marked : has_mark lens ≡ true = with_lens lens (table_on t Old u.0) (table_on t New u.0) (ap (λ l. may_miss (joined_by l (table_on t Old u.0) (table_on t New u.0))) (sym e) ∙ k) in
+              let marked : has_mark lens ≡ true = with_lens lens (table_on t Old u.0) (table_on t New u.0) (ap (λ l. may_miss (pair_of l (table_on t Old u.0) (table_on t New u.0))) (sym e) ∙ k) in
               nothing_clashes (table_on t New u.0) New (map (begun_row lens) u.1) (keys_of (map (begun_row lens) u.1)) (nothing_begun lens marked u.1);
         }
 
 pub started_unique : (s : State) (name : List ℕ) (plan : Plan) → Each (HasNoClash s) s.tables → Each (HasNoClash (started s name plan)) (started s name plan).tables
-started_unique s name plan h = map_each (begun_table plan.fates) (HasNoClash (started s name plan)) s.tables (each_so (HasNoClash s) (λ u. HasNoClash (started s name plan) (begun_table plan.fates u)) (begun_unique s name plan) s.tables h)
+started_unique s name plan h =
+    let t = started s name plan in
+    each_append (HasNoClash t) (map (begun_table plan.fates) s.tables) (created_tables plan.fates)
+    (map_each (begun_table plan.fates) (HasNoClash t) s.tables (each_so (HasNoClash s) (λ u. HasNoClash t (begun_table plan.fates u)) (begun_unique s name plan) s.tables h))
+    (map_each {Y = Rows} (λ number. (number, [])) (HasNoClash t) (created_in plan.fates) (each (λ number. HasNoClash t (number, [])) (empty_unique t) (created_in plan.fates)))
 
 -- ---- COMPLETE
 

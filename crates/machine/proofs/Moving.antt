@@ -1,9 +1,10 @@
 -- Tables and rows that stand, when they are carried into another state.
-use Rattle.std.proofs.Common.{◌≡◌, ◌∙◌, ℕ, ◌<◌, List, [], ◌∷◌, Bool, true, false, ◌||◌, cond, Some, length, map, ap, refl, arith}
+use Rattle.std.proofs.Common.{◌≡◌, ◌∙◌, ℕ, ◌<◌, ◌≤◌, List, [], ◌∷◌, ◌++◌, Bool, true, false, ◌||◌, cond, Some, length, map, ap, refl, subst, arith}
 use Rattle.std.specs.Prelude.{◌==◌, find, nat_eq, sum_by}
-use Rattle.std.specs.List.{AllByRecursion as Each, filter, list_any}
+use Rattle.std.specs.List.{AllByRecursion as Each, filter, list_all, list_any}
 use Rattle.std.proofs.lemmas.Bool.Decides.{nat_tests}
 use Rattle.std.proofs.lemmas.List.Sums.{sum_by-cons}
+use Rattle.sql_base.specs.Laws.{all_true, both}
 use Rattle.row_rules.specs.declared.kinds.Kept.{Kept}
 use Rattle.machine.specs.declared.states.State.{State}
 use Rattle.machine.specs.Standing.{Ascends, NumbersAscend, RowStands, RowsStand, TablesStand}
@@ -45,6 +46,28 @@ filter_each p P (x ∷ xs) h = by_test (filter_each p P xs h.1) (p x)
     by_test there true = (h.0, there)
     by_test there false = there
 
+pub each_append : {X : Type 0} (P : X → Type 0) (xs ys : List X) → Each P xs → Each P ys → Each P (xs ++ ys)
+each_append P [] ys p q = q
+each_append P (x ∷ xs) ys p q = (p.0, each_append P xs ys p.1 q)
+
+-- What passes a test is so.
+pub filter_so : {X : Type 0} (p : X → Bool) (xs : List X) → Each (λ x. p x ≡ true) (filter p xs)
+filter_so p [] = tt
+filter_so p (x ∷ xs) = by_test (filter_so p xs) (p x) refl
+  where
+    by_test : Each (λ x. p x ≡ true) (filter p xs) → (b : Bool) → p x ≡ b →
+        Each (λ x. p x ≡ true) (cond b (x ∷ filter p xs) (filter p xs))
+    by_test there true is = (is, there)
+    by_test there false is = there
+
+pub list_each : {X : Type 0} (p : X → Bool) (xs : List X) → list_all p xs ≡ true → Each (λ x. p x ≡ true) xs
+list_each p [] h = tt
+list_each p (x ∷ xs) h = let parts = both (p x) (list_all p xs) h in (parts.0, list_each p xs parts.1)
+
+pub each_list : {X : Type 0} (p : X → Bool) (xs : List X) → Each (λ x. p x ≡ true) xs → list_all p xs ≡ true
+each_list p [] h = refl
+each_list p (x ∷ xs) h = all_true (p x) (list_all p xs) h.0 (each_list p xs h.1)
+
 -- ---- tables by their numbers
 
 pub either_way : (a b : Bool) → b ≡ true → (a || b) ≡ true
@@ -80,6 +103,79 @@ each_found (t ∷ ts) h =
     behind u below k =
         let apart : (t.0 == u.0) ≡ false = grind (arith, nat_tests) in
         ap (λ b. cond b (Some t) (find (λ v. v.0 == u.0) ts)) apart ∙ k
+
+-- Of the number of each table it is so, where it is of these numbers.
+pub each_number : (p : ℕ → Bool) (tables : List Rows) → list_all p (numbers tables) ≡ true →
+    Each (λ table. p table.0 ≡ true) tables
+each_number p [] h = tt
+each_number p (t ∷ ts) h = let parts = both (p t.0) (list_all p (numbers ts)) h in (parts.0, each_number p ts parts.1)
+
+pub number_each : (p : ℕ → Bool) (tables : List Rows) → Each (λ table. p table.0 ≡ true) tables →
+    list_all p (numbers tables) ≡ true
+number_each p [] h = refl
+number_each p (t ∷ ts) h = all_true (p t.0) (list_all p (numbers ts)) h.0 (number_each p ts h.1)
+
+-- ---- some of the tables
+
+ascends_before : (n : ℕ) (ts : List Rows) → Each (λ u. n < u.0) ts → NumbersAscend (numbers ts) →
+    NumbersAscend (n ∷ numbers ts)
+ascends_before n [] h a = tt
+ascends_before n (t ∷ ts) h a = (h.0, a)
+
+pub numbers_filtered : (p : Rows → Bool) (ts : List Rows) → NumbersAscend (numbers ts) →
+    NumbersAscend (numbers (filter p ts))
+numbers_filtered p [] h = tt
+numbers_filtered p (t ∷ ts) h = by_test (numbers_filtered p ts (later t.0 ts h)) (p t)
+  where
+    by_test : NumbersAscend (numbers (filter p ts)) → (b : Bool) →
+        NumbersAscend (numbers (cond b (t ∷ filter p ts) (filter p ts)))
+    by_test there true = ascends_before t.0 (filter p ts) (filter_each p (λ u. t.0 < u.0) ts (below_each t.0 ts h)) there
+    by_test there false = there
+
+-- A number that is among them stays so, where its table does.
+pub among_filtered : (p : ℕ → Bool) (number : ℕ) → p number ≡ true → (ts : List Rows) →
+    list_any (nat_eq number) (numbers ts) ≡ true →
+    list_any (nat_eq number) (numbers (filter (λ t. p t.0) ts)) ≡ true
+among_filtered p number is [] h = h
+among_filtered p number is (t ∷ ts) h = by_tests (among_filtered p number is ts) (nat_eq number t.0) refl (p t.0) refl h
+  where
+    by_tests : (list_any (nat_eq number) (numbers ts) ≡ true → list_any (nat_eq number) (numbers (filter (λ t. p t.0) ts)) ≡ true) →
+        (same : Bool) → nat_eq number t.0 ≡ same → (stays : Bool) → p t.0 ≡ stays →
+        (same || list_any (nat_eq number) (numbers ts)) ≡ true →
+        list_any (nat_eq number) (numbers (cond stays (t ∷ filter (λ t. p t.0) ts) (filter (λ t. p t.0) ts))) ≡ true
+    by_tests there true e true k h = ap (λ b. b || list_any (nat_eq number) (numbers (filter (λ t. p t.0) ts))) e
+    by_tests there true e false k h =
+        let same : number ≡ t.0 = grind (arith, nat_tests) in
+        let so : p t.0 ≡ true = subst (λ n. p n ≡ true) same is in
+        cc
+    by_tests there false e true k h = either_way (nat_eq number t.0) (list_any (nat_eq number) (numbers (filter (λ t. p t.0) ts))) (there h)
+    by_tests there false e false k h = there h
+
+pub counts_filtered : (p : Rows → Bool) (ts : List Rows) →
+    sum_by (λ table. length table.1) (filter p ts) ≤ sum_by (λ table. length table.1) ts
+counts_filtered p [] = omega arith
+counts_filtered p (t ∷ ts) = by_test (counts_filtered p ts) (p t)
+  where
+    by_test : sum_by (λ table. length table.1) (filter p ts) ≤ sum_by (λ table. length table.1) ts →
+        (b : Bool) →
+        sum_by (λ table. length table.1) (cond b (t ∷ filter p ts) (filter p ts)) ≤ sum_by (λ table. length table.1) (t ∷ ts)
+    by_test there true = omega (arith, there, sum_by-cons {X = Rows} (λ table. length table.1) t (filter p ts), sum_by-cons {X = Rows} (λ table. length table.1) t ts)
+    by_test there false = omega (arith, there, sum_by-cons {X = Rows} (λ table. length table.1) t ts)
+
+pub tables_filtered : (s : State) (p : Rows → Bool) (ts : List Rows) → TablesStand s ts →
+    TablesStand s (filter p ts)
+tables_filtered s p [] h = tt
+tables_filtered s p (t ∷ ts) h = by_test (tables_filtered s p ts h.2) (p t)
+  where
+    by_test : TablesStand s (filter p ts) → (b : Bool) →
+        TablesStand s (cond b (t ∷ filter p ts) (filter p ts))
+    by_test there true = (h.0, h.1, there)
+    by_test there false = there
+
+pub tables_append : (s : State) (ts us : List Rows) → TablesStand s ts → TablesStand s us →
+    TablesStand s (ts ++ us)
+tables_append s [] us h k = k
+tables_append s (t ∷ ts) us h k = (h.0, h.1, tables_append s ts us h.2 k)
 
 -- ---- tables with other rows under the same numbers
 

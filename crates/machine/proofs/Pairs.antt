@@ -1,6 +1,6 @@
 -- The tables of a state that stands: those that one version has, and those that both have.
-use Rattle.std.proofs.Common.{◌≡◌, ℕ, List, [], ◌∷◌, Bool, true, false, ◌&&◌, not, ◌==◌, Option, Some, None, refl, ◌∙◌, sym, ap, subst, if◌then◌else◌, map, find, nat_eq, arith, option_map, option_and_then}
-use Rattle.std.specs.List.{list_all, list_any}
+use Rattle.std.proofs.Common.{◌≡◌, ℕ, List, [], ◌∷◌, Bool, true, false, ◌&&◌, ◌||◌, not, ◌==◌, Option, Some, None, is_some, refl, ◌∙◌, sym, ap, subst, if◌then◌else◌, map, find, arith, option_map, option_and_then}
+use Rattle.std.specs.List.{AllByRecursion as Each, list_any}
 use Rattle.std.specs.Option.{option_or}
 use Rattle.std.specs.Str.{bytes_eq}
 use Rattle.std.proofs.lemmas.Bool.Decides.{nat_tests}
@@ -11,21 +11,19 @@ use Rattle.mig_lens.specs.declared.columns.Side.TheVariants.{Old, New}
 use Rattle.mig_lens.specs.Laws.{IsSchema, numbers_differ}
 use Rattle.mig_lens.specs.Lens.{IsWellFormed, fits}
 use Rattle.mig_lens.specs.Plan.{Table, table_numbered}
-use Rattle.sql_base.specs.Laws.{both, some_same}
+use Rattle.sql_base.specs.Laws.{some_same}
 use Rattle.machine.specs.declared.states.Mode.{Mode}
 use Rattle.machine.specs.declared.states.Mode.TheVariants.{Calm, Both}
 use Rattle.machine.specs.declared.states.State.{State}
-use Rattle.machine.specs.State.{Found, Shared, Version, lens_between, newer_called, newer_schema, path_name, schema_on, shared, table_in, table_of, table_on, table_through, version_called}
+use Rattle.machine.specs.State.{Found, Shared, Version, fate_among, lens_between, newer_called, newer_schema, path_name, schema_on, shared, table_in, table_of, table_on, table_through, version_called}
 use Rattle.row_rules.specs.Site.{name_of, number_of, shape_of}
+use Rattle.machine.proofs.Joining.{both_have_lens, lens_joins, pair_of}
+use Rattle.machine.proofs.Moving.{each_so}
 use Rattle.machine.proofs.Placing.{neither}
-use Rattle.machine.specs.Migrate.{numbers_of}
 use Rattle.machine.specs.Sites.{PairStands, TableStands}
-use Rattle.machine.specs.Standing.{IsState, ModeStands}
+use Rattle.machine.specs.Standing.{IsState, ModeStands, is_known}
 
 -- ---- tables that both versions have
-
-abbrev pair_of : Option Lens → Option Table → Option Table → Option Shared
-pair_of lens old new = option_and_then (λ old. option_and_then (λ new. option_map (λ lens. record { old = old; new = new; lens = lens }) lens) new) old
 
 pair_parts : (lens : Option Lens) (old new : Option Table) (pair : Shared) → pair_of lens old new ≡ Some pair → (old ≡ Some pair.old) × (new ≡ Some pair.new) × (lens ≡ Some pair.lens)
 pair_parts lens None new pair h = cc
@@ -40,7 +38,7 @@ newer_table mode number = option_and_then (λ schema. table_numbered schema numb
 joined : (s : State) (mode : Mode) → ModeStands s mode → (number : ℕ) (lens : Lens) → lens_between mode number ≡ Some lens → (old new : Table) → table_numbered s.schema number ≡ Some old → newer_table mode number ≡ Some new → (fits lens (shape_of old) (shape_of new) ≡ true) × IsWellFormed lens (shape_of old) (shape_of new)
 joined s Calm h number lens e old new o n = cc
 joined s (Both name schema fates) h number lens e old new o n =
-    let j = h.joined number lens e in
+    let j = lens_joins s.schema schema number (fate_among fates number) lens (h.fates_stand number) e in
     let before : j.before ≡ shape_of old = some_same j.before (shape_of old) (sym j.in_old ∙ ap (option_map shape_of) o) in
     let after : j.after ≡ shape_of new = some_same j.after (shape_of new) (sym j.in_new ∙ ap (option_map shape_of) n) in
     let fitting = subst (λ shape. fits lens (shape_of old) shape ≡ true) after (subst (λ shape. fits lens shape j.after ≡ true) before j.fitting) in
@@ -55,26 +53,18 @@ pair_stands s number pair stands h =
 
 -- ---- tables that one version has alone
 
-among : (numbers : List ℕ) (number : ℕ) (tables : List Table) (table : Table) → list_all (λ table. list_any (nat_eq (number_of table)) numbers) tables ≡ true → find {X = Table} (λ table. table.1 == number) tables ≡ Some table → list_any (nat_eq number) numbers ≡ true
-among numbers number [] table h e = cc
-among numbers number (first ∷ tables) table h e =
-    let parts = both (list_any (nat_eq (number_of first)) numbers) (list_all (λ (table : Table). list_any (nat_eq (number_of table)) numbers) tables) h in
-    by_test parts.0 (among numbers number tables table parts.1) (first.1 == number) refl e
-  where
-    by_test : list_any (nat_eq (number_of first)) numbers ≡ true → (find {X = Table} (λ table. table.1 == number) tables ≡ Some table → list_any (nat_eq number) numbers ≡ true) → (b : Bool) → (first.1 == number) ≡ b → (if b then Some first else find {X = Table} (λ table. table.1 == number) tables) ≡ Some table → list_any (nat_eq number) numbers ≡ true
-    by_test here there true k e =
-        let same : first.1 ≡ number = grind (arith, nat_tests) in
-        subst (λ n. list_any (nat_eq n) numbers ≡ true) same here
-    by_test here there false k e = there e
-
-has_lens : (s : State) (mode : Mode) → ModeStands s mode → (number : ℕ) (new : Table) → list_any (nat_eq number) (numbers_of s) ≡ true → newer_table mode number ≡ Some new → (lens : Lens) × (lens_between mode number ≡ Some lens)
-has_lens s Calm h number new a e = cc
-has_lens s (Both name schema fates) h number new a e = h.kept number a
+has_lens : (s : State) (mode : Mode) → ModeStands s mode → (number : ℕ) (old new : Table) →
+    table_numbered s.schema number ≡ Some old → newer_table mode number ≡ Some new →
+    (lens : Lens) × (lens_between mode number ≡ Some lens)
+has_lens s Calm h number old new o n = cc
+has_lens s (Both name schema fates) h number old new o n =
+    let known : is_known s number ≡ true = ap (λ found. is_some found || is_some (table_on s New number)) o in
+    both_have_lens s.schema schema number (fate_among fates number) old new (h.fates_stand number) (h.all number known) o n
 
 -- A table that isn't shared is one side's alone.
 pub not_both : (s : State) (number : ℕ) (old new : Table) → IsState s → shared s number ≡ None → table_on s Old number ≡ Some old → table_on s New number ≡ Some new → ⊥
 not_both s number old new stands none o n =
-    let lens = has_lens s s.mode stands.mode number new (among (numbers_of s) number s.schema.tables old stands.version.rows o) n in
+    let lens = has_lens s s.mode stands.mode number old new o n in
     let pair : shared s number ≡ Some (record { old = old; new = new; lens = lens.0 }) = ap (λ l. pair_of l (table_on s Old number) (table_on s New number)) lens.1 ∙ ap (λ o. pair_of (Some lens.0) o (table_on s New number)) o ∙ ap (pair_of (Some lens.0) (Some old)) n in
     cc
 
@@ -187,6 +177,21 @@ found_stands s (named ∷ path) name found stands e = by_first (table_through s 
 newer_stands : (s : State) (mode : Mode) → ModeStands s mode → (number : ℕ) (new : Table) → newer_table mode number ≡ Some new → WellFormed (shape_of new)
 newer_stands s Calm h number new e = cc
 newer_stands s (Both name schema fates) h number new e = h.version.schema_stands.shapes number (shape_of new) (ap (option_map shape_of) e)
+
+-- Each table of a version is found by its number, or another one is.
+pub each_numbered : (tables : List Table) →
+    Each (λ table. is_some (find {X = Table} (λ other. other.1 == number_of table) tables) ≡ true) tables
+each_numbered [] = tt
+each_numbered (t ∷ ts) =
+    let itself : (t.1 == t.1) ≡ true = grind (arith, nat_tests) in (
+      ap (λ b. is_some (if b then Some t else find {X = Table} (λ other. other.1 == t.1) ts)) itself,
+      each_so (λ (u : Table). is_some (find {X = Table} (λ other. other.1 == u.1) ts) ≡ true) (λ (u : Table). is_some (find {X = Table} (λ other. other.1 == u.1) (t ∷ ts)) ≡ true) (λ u h. by_test (t.1 == u.1) (find {X = Table} (λ other. other.1 == u.1) ts) h) ts (each_numbered ts),
+    )
+  where
+    by_test : (b : Bool) (found : Option Table) → is_some found ≡ true →
+        is_some (if b then Some t else found) ≡ true
+    by_test true found h = refl
+    by_test false found h = h
 
 -- A table that is found by a number has it.
 pub number_found : (number : ℕ) (tables : List Table) (table : Table) → find {X = Table} (λ t. t.1 == number) tables ≡ Some table → number_of table ≡ number

@@ -1,5 +1,5 @@
 -- Rows of one table that are put in their places or removed.
-use Rattle.std.proofs.Common.{◌≡◌, ◌∙◌, ℤ, List, [], ◌∷◌, Bool, true, false, not, ◌||◌, cond, refl, sym, ap, subst, map, filter, int_cmp, int_eq, Ordering, Less, Equal, Greater}
+use Rattle.std.proofs.Common.{◌≡◌, ◌∙◌, ℤ, List, [], ◌∷◌, Bool, true, false, not, ◌||◌, refl, sym, ap, subst, map, filter, int_cmp, int_eq, Ordering, Less, Equal, Greater}
 use Rattle.std.specs.List.{AllByRecursion as Each, list_all, list_any}
 use Rattle.std.specs.Ordering.{match_ordering, ordering_reverse, is_eq}
 use Rattle.std.proofs.lemmas.Cmp.{int_cmp_total, int_ranked}
@@ -83,30 +83,7 @@ put_each P row (first ∷ rows) r h = by_order (put_each P row rows r h.1) (int_
     by_order there Equal = (r, h.1)
     by_order there Greater = (h.0, there)
 
--- ---- rows that are removed
-
-filter_above : (p : Kept → Bool) (key : ℤ) (rows : List Kept) → Above key rows → Ascends rows → Above key (filter p rows)
-filter_above p key [] a h = tt
-filter_above p key (row ∷ rows) a h = by_test (p row) (filter_above p key rows (above_less key row.key rows a (ascends_above row rows h)) (ascends_rest row rows h))
-  where
-    by_test : (b : Bool) → Above key (filter p rows) → Above key (cond b (row ∷ filter p rows) (filter p rows))
-    by_test true there = a
-    by_test false there = there
-
-pub filter_ascends : (p : Kept → Bool) (rows : List Kept) → Ascends rows → Ascends (filter p rows)
-filter_ascends p [] h = tt
-filter_ascends p (row ∷ rows) h = by_test (p row) (filter_ascends p rows (ascends_rest row rows h))
-  where
-    by_test : (b : Bool) → Ascends (filter p rows) → Ascends (cond b (row ∷ filter p rows) (filter p rows))
-    by_test true there = ascends_join row (filter p rows) (filter_above p row.key rows (ascends_above row rows h) (ascends_rest row rows h)) there
-    by_test false there = there
-
 -- ---- rows after changes
-
-pub changed_ascend : (all : List Change) (rows : List Kept) → Ascends rows → Ascends (after_changes all rows)
-changed_ascend [] rows h = h
-changed_ascend (Put row ∷ all) rows h = changed_ascend all (put_row row rows) (put_ascends row rows h)
-changed_ascend (Remove key ∷ all) rows h = changed_ascend all (filter (λ row. not (int_eq row.key key)) rows) (filter_ascends (λ row. not (int_eq row.key key)) rows h)
 
 -- What holds of each row, and of each that is put, holds afterwards.
 pub changed_each : (P : Kept → Type 0) (all : List Change) (rows : List Kept) → Each (OfPut P) all → Each P rows → Each P (after_changes all rows)

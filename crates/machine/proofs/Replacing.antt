@@ -1,12 +1,11 @@
 -- Tables of a state whose rows are replaced.
-use Rattle.std.proofs.Common.{◌≡◌, ◌∙◌, ℕ, ◌+◌, ◌≤◌, List, [], ◌∷◌, Bool, true, false, ◌==◌, Some, refl, sym, ap, subst, if◌then◌else◌, length, map, find, sum_by, arith, le_of_lt, le_of_eq, lt_of_le_of_lt, nat_eq, bytes_eq}
-use Rattle.std.specs.List.{AllByRecursion as Each, list_any}
+use Rattle.std.proofs.Common.{◌≡◌, ℕ, ◌+◌, ◌≤◌, List, [], ◌∷◌, Bool, true, false, ◌==◌, Some, refl, sym, ap, subst, if◌then◌else◌, length, map, find, sum_by, arith, le_of_lt, le_of_eq, lt_of_le_of_lt}
+use Rattle.std.specs.List.{AllByRecursion as Each, list_all}
 use Rattle.std.specs.Option.{option_map_or}
 use Rattle.std.proofs.lemmas.Bool.Decides.{nat_tests}
 use Rattle.std.proofs.lemmas.List.Sums.{sum_by-cons}
 use Rattle.sql_base.specs.declared.shapes.Schema.{Schema}
 use Rattle.mig_lens.specs.declared.columns.Side.TheVariants.{Old, New}
-use Rattle.mig_lens.specs.Laws.{Joins}
 use Rattle.row_rules.specs.declared.kinds.Kept.{Kept}
 use Rattle.machine.specs.declared.states.Mode.{Mode}
 use Rattle.machine.specs.declared.states.Mode.TheVariants.{Calm, Both}
@@ -14,7 +13,7 @@ use Rattle.machine.specs.declared.states.State.{State}
 use Rattle.machine.specs.State.{row_count, rows_of, shared, table_on, with_rows}
 use Rattle.machine.specs.Statement.{max_rows}
 use Rattle.machine.specs.Migrate.{numbers_of}
-use Rattle.machine.specs.Standing.{Ascends, HalfStands, IsState, ModeStands, NewStands, NoneLost, NumbersAscend, RowStands, RowsStand, TablesStand, VersionStands, may_lose, may_miss}
+use Rattle.machine.specs.Standing.{Ascends, HalfStands, IsState, ModeStands, NewStands, NoneLost, NumbersAscend, RowStands, RowsStand, TablesStand, VersionStands, is_known, may_lose, may_miss}
 
 -- ---- rows of a state
 
@@ -106,16 +105,12 @@ replaced_tables_stand s t schema mode number rows a r (table ∷ tables) h = by_
     by_test there true = (a, rows_carry s t schema mode number rows r, there)
     by_test there false = (h.0, rows_carry s t schema mode table.0 table.1 h.1, there)
 
-replaced_mode_stands : (s t : State) → t.version ≡ s.version → t.schema ≡ s.schema → t.kind ≡ s.kind → t.next_table ≡ s.next_table → numbers_of t ≡ numbers_of s → (mode : Mode) → ModeStands s mode → ModeStands t mode
-replaced_mode_stands s t version schema kind next numbers Calm h = tt
-replaced_mode_stands s t version schema kind next numbers (Both name newer fates) h =
-    record {
-      version = subst (λ n. VersionStands newer (numbers_of t) n) (sym next) (subst (λ numbers. VersionStands newer numbers s.next_table) (sym numbers) h.version);
-      named = ap (bytes_eq name) version ∙ h.named;
-      no_steps = kind ∙ h.no_steps;
-      joined = λ number lens e. subst (λ old. Joins lens number old newer) (sym schema) (h.joined number lens e);
-      kept = λ number e. h.kept number (ap (list_any (nat_eq number)) (sym numbers) ∙ e);
-    }
+replaced_mode_stands : (s : State) (tables : List (ℕ × List Kept)) →
+    map (λ table. table.0) tables ≡ numbers_of s → (mode : Mode) → ModeStands s mode →
+    ModeStands (record s { tables = tables }) mode
+replaced_mode_stands s tables numbers Calm h = tt
+replaced_mode_stands s tables numbers (Both name newer fates) h =
+    record { version = subst (λ numbers. VersionStands newer numbers s.next_table) (sym numbers) h.version; named = h.named; no_steps = h.no_steps; fates_stand = h.fates_stand; all = h.all }
 
 pub replaced_stands : (s : State) (number : ℕ) (rows : List Kept) → IsState s → Ascends rows → RowsStand s number rows → (may_lose s.kind s.left ≡ false → NoneLost rows) → row_count (with_rows s number rows) ≤ max_rows → IsState (with_rows s number rows)
 replaced_stands s number rows stands a r lost few =
@@ -124,8 +119,9 @@ replaced_stands s number rows stands a r lost few =
     record {
       steps = stands.steps;
       version = subst (λ numbers. VersionStands s.schema numbers s.next_table) (sym numbers) stands.version;
-      mode = replaced_mode_stands s t refl refl refl refl numbers s.mode stands.mode;
+      mode = replaced_mode_stands s t.tables numbers s.mode stands.mode;
       numbers = subst NumbersAscend (sym numbers) stands.numbers;
+      known = subst (λ numbers. list_all (is_known s) numbers ≡ true) (sym numbers) stands.known;
       tables = replaced_tables_stand s t refl refl number rows a r s.tables stands.tables;
       few = few;
       lost = λ none. record { columns = (stands.lost none).columns; rows = replaced_so (λ number rows. NoneLost rows) number rows (lost none) s.tables (stands.lost none).rows };

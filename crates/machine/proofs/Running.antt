@@ -46,10 +46,10 @@ beginning_schema = record { names = refl; numbers = refl; shapes = λ number sha
     by_test number shape false e = cc
 
 beginning_version : VersionStands beginning.schema (numbers_of beginning) beginning.next_table
-beginning_version = record { schema_stands = beginning_schema; rows = refl; known = refl; below = (omega arith, tt) }
+beginning_version = record { schema_stands = beginning_schema; rows = refl; below = (omega arith, tt) }
 
 pub beginning_stands : IsState beginning
-beginning_stands = record { steps = refl; version = beginning_version; mode = tt; numbers = tt; tables = (tt, tt, tt); few = omega arith; lost = λ none. record { columns = refl; rows = (tt, tt) } }
+beginning_stands = record { steps = refl; version = beginning_version; mode = tt; numbers = tt; known = refl; tables = (tt, tt, tt); few = omega arith; lost = λ none. record { columns = refl; rows = (tt, tt) } }
 
 -- ---- runs
 

@@ -1,12 +1,11 @@
 -- Tables, sites and rows of a state that stands, as the layers above meet them.
 use Rattle.machine.specs.Below.{Below}
-use Rattle.machine.specs.Laws.{ChangedRowsAscend, ChangesKeep, FillingStands, FoundStands, RowsOnSites, RowsStandBy, SharedStands, ShowsStand, WritesStand}
+use Rattle.machine.specs.Laws.{ChangesKeep, FillingStands, FoundStands, RowsOnSites, RowsStandBy, SharedStands, ShowsStand, WritesStand}
 use Rattle.machine.specs.State.{site_of}
 use Rattle.machine.specs.Statement.{Shows, Writes}
 use Rattle.machine.proofs.FoundSites.{row_on_site, site_stands}
 use Rattle.machine.proofs.Lines.{begun_stands}
 use Rattle.machine.proofs.Pairs.{found_stands, new_stands, pair_stands}
-use Rattle.machine.proofs.Placing.{changed_ascend}
 use Rattle.machine.proofs.Replacing.{rows_stand}
 use Rattle.machine.proofs.SiteChanges.{changes_stand}
 
@@ -39,6 +38,3 @@ rows_on_sites s found row stands f r = row_on_site s stands (λ lost. Unit {0}) 
 
 pub changes_keep : Below → ChangesKeep
 changes_keep below s found what older all stands f j r h = changes_stand (λ lost. Unit {0}) below (site_of s found) (site_stands s stands found f) what older all j tt r h
-
-pub changed_rows_ascend : ChangedRowsAscend
-changed_rows_ascend all rows a = changed_ascend all rows a

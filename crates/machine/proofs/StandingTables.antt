@@ -1,46 +1,59 @@
 -- Tables of a state that stands, as commands go through them.
-use Rattle.std.proofs.Common.{◌≡◌, ◌∙◌, ℕ, List, [], true, is_some, ap, sym, subst}
-use Rattle.std.specs.List.{AllByRecursion as Each, list_any}
+use Rattle.std.proofs.Common.{◌≡◌, ◌∙◌, [], true, Option, Some, None, is_some, option_map, ap, refl, subst}
 use Rattle.std.specs.Option.{option_map_or}
-use Rattle.std.specs.Prelude.{nat_eq}
+use Rattle.mig_lens.specs.declared.columns.Lens.{Lens}
 use Rattle.machine.specs.Below.{Below}
-use Rattle.machine.specs.Laws.{FilledRowsHaveHalves, IsShared, StartsStand, TablesAreShared, TablesHaveTheirRows, TablesStay}
-use Rattle.machine.specs.Migrate.{numbers_of}
-use Rattle.machine.specs.Standing.{IsState, ModeStands, NewerStands}
-use Rattle.machine.specs.State.{rows_of}
-use Rattle.machine.specs.Words.{Both, Fate, Schema, State, table_numbered}
-use Rattle.machine.proofs.Completing.{IsPaired, all_paired, whole_tables}
-use Rattle.machine.proofs.Joining.{on_new, paired}
-use Rattle.machine.proofs.Moving.{IsFound, Rows, each_among, each_found, each_so, filter_all}
-use Rattle.machine.proofs.Starting.{planned_stands}
+use Rattle.machine.specs.Laws.{BothAreShared, FilledRowsHaveHalves, SharedByLenses, StartsStand, TablesAreKnown, TablesHaveTheirRows}
+use Rattle.machine.specs.Standing.{ModeStands, NewerStands, is_known}
+use Rattle.machine.specs.State.{Shared, fate_among, lens_among, lens_between, rows_of, shared, table_on}
+use Rattle.machine.specs.Words.{New, Old, Table}
+use Rattle.machine.proofs.Completing.{whole_tables}
+use Rattle.machine.proofs.Joining.{lens_joins, pair_of, paired}
+use Rattle.machine.proofs.Moving.{IsFound, Rows, each_found, each_number, each_so}
+use Rattle.machine.proofs.Pairs.{not_both}
+use Rattle.machine.proofs.Starting.{planned_stands, there_is}
 
 pub tables_have_their_rows : TablesHaveTheirRows
 tables_have_their_rows s stands = each_so (IsFound s.tables) (λ table. rows_of s table.0 ≡ table.1) (λ table found. ap (λ f. option_map_or (λ (table : Rows). table.1) f []) found) s.tables (each_found s.tables stands.numbers)
 
-module _ (s : State) (name : List ℕ) (schema : Schema) (fates : List (ℕ × Fate)) (stands : IsState s) (is : s.mode ≡ Both name schema fates) where
-  newer : NewerStands s name schema fates
-  newer = subst (ModeStands s) is stands.mode
+pub tables_are_known : TablesAreKnown
+tables_are_known s stands = each_number (is_known s) s.tables stands.known
 
-  shared_each : Each (IsShared s fates) s.tables
-  shared_each = each_so (λ u. list_any (nat_eq u.0) (numbers_of s) ≡ true) (IsShared s fates) pair s.tables (each_among s.tables)
-    where
-      pair : (u : Rows) → list_any (nat_eq u.0) (numbers_of s) ≡ true → IsShared s fates u
-      pair u among =
-          let kept = newer.kept u.0 among in
-          let found = paired s name schema fates is u.0 kept.0 kept.1 (newer.joined u.0 kept.0 kept.1) in
-          (record { old = found.old; new = found.new; lens = kept.0 }, found.is_shared, kept.1)
+pub both_are_shared : BothAreShared
+both_are_shared s number stands has_old has_new = by_pair (shared s number) refl
+  where
+    old : (table : Table) × (table_on s Old number ≡ Some table)
+    old = there_is (table_on s Old number) has_old
 
-  stay_each : Each (λ u. is_some (table_numbered schema u.0) ≡ true) s.tables
-  stay_each = each_so (IsPaired s) (λ u. is_some (table_numbered schema u.0) ≡ true) (λ u p. ap is_some (sym (on_new s name schema fates is u.0) ∙ p.1.stands.new)) s.tables (all_paired s name schema fates is newer)
+    new : (table : Table) × (table_on s New number ≡ Some table)
+    new = there_is (table_on s New number) has_new
 
-pub tables_are_shared : TablesAreShared
-tables_are_shared s name schema fates stands is = shared_each s name schema fates stands is
+    by_pair : (pair : Option Shared) → shared s number ≡ pair → is_some pair ≡ true
+    by_pair None is = absurd (not_both s number old.0 new.0 stands is old.1 new.1)
+    by_pair (Some pair) is = refl
 
-pub tables_stay : TablesStay
-tables_stay s name schema fates stands is = filter_all (λ u. is_some (table_numbered schema u.0)) s.tables (stay_each s name schema fates stands is)
+no_pair : (old new : Option Table) → option_map (λ pair. pair.lens) (pair_of None old new) ≡ None
+no_pair None new = refl
+no_pair (Some old) None = refl
+no_pair (Some old) (Some new) = refl
+
+pub shared_by_lenses : SharedByLenses
+shared_by_lenses s name schema fates number stands is = by_lens (lens_among fates number) refl
+  where
+    newer : NewerStands s name schema fates
+    newer = subst (ModeStands s) is stands.mode
+
+    by_lens : (lens : Option Lens) → lens_among fates number ≡ lens →
+        option_map (λ pair. pair.lens) (shared s number) ≡ lens
+    by_lens None e =
+        let between : lens_between s.mode number ≡ None = ap (λ mode. lens_between mode number) is ∙ e in
+        ap (λ lens. option_map (λ pair. pair.lens) (pair_of lens (table_on s Old number) (table_on s New number))) between ∙ no_pair (table_on s Old number) (table_on s New number)
+    by_lens (Some lens) e =
+        let pair = paired s name schema fates is number lens e (lens_joins s.schema schema number (fate_among fates number) lens (newer.fates_stand number) e) in
+        ap (option_map (λ pair. pair.lens)) pair.is_shared
 
 pub filled_rows_have_halves : FilledRowsHaveHalves
-filled_rows_have_halves s name schema fates stands is none = whole_tables s stands.numbers (all_paired s name schema fates is (newer s name schema fates stands is)) none
+filled_rows_have_halves s stands none = whole_tables s stands none
 
 pub starts_stand : Below → StartsStand
 starts_stand below s m plan stands allowed is = planned_stands below s m plan stands allowed is

@@ -1,61 +1,58 @@
 -- Starting a migration leads from a state that stands to one.
-use Rattle.std.proofs.Common.{◌≡◌, ◌∙◌, ℕ, ◌+◌, ◌<◌, ◌≤◌, ℤ, List, [], ◌∷◌, Bool, true, false, ◌&&◌, ◌||◌, if◌then◌else◌, Option, Some, None, Result, Ok, Err, length, map, ap, refl, sym, subst, arith}
-use Rattle.std.specs.Prelude.{is_some, nat_eq}
-use Rattle.std.specs.List.{AllByRecursion as Each, list_all, list_any}
-use Rattle.std.specs.Option.{option_map, option_map_or, option_or}
+use Rattle.std.proofs.Common.{◌≡◌, ◌∙◌, ℕ, zero, suc, ◌+◌, ◌<◌, ◌≤◌, ℤ, List, [], ◌∷◌, ◌++◌, Bool, true, false, ◌||◌, if◌then◌else◌, Option, Some, None, Result, Ok, Err, length, map, ap, refl, sym, subst, arith}
+use Rattle.std.specs.Prelude.{◌==◌, find, is_some, nat_eq, sum_by}
+use Rattle.std.specs.List.{AllByRecursion as Each, list_all, list_any, range_with_len}
+use Rattle.std.specs.Option.{option_and_then, option_map, option_map_or, option_or}
 use Rattle.std.specs.Str.{bytes_eq}
 use Rattle.std.proofs.lemmas.Bool.Decides.{nat_tests}
-use Rattle.std.proofs.lemmas.List.{length-map}
+use Rattle.std.proofs.lemmas.List.{length-map, map-append}
+use Rattle.std.proofs.lemmas.List.Folds.{list_all-append, list_any-append}
+use Rattle.std.proofs.lemmas.List.Sums.{sum_by-append, sum_by-cons}
 use Rattle.sql_base.specs.Outcome.{and_then, every}
 use Rattle.sql_base.specs.declared.shapes.Shape.{Shape}
 use Rattle.sql_base.specs.declared.values.Value.{Value}
 use Rattle.mig_lens.specs.declared.columns.Cell.{Cell}
 use Rattle.mig_lens.specs.declared.columns.Cell.TheVariants.{Carry, Make, Still}
 use Rattle.mig_lens.specs.declared.columns.Lens.{Lens}
-use Rattle.mig_lens.specs.declared.columns.Side.TheVariants.{New}
+use Rattle.mig_lens.specs.declared.columns.Side.TheVariants.{New, Old}
 use Rattle.mig_lens.specs.declared.faults.Kind.{Kind}
 use Rattle.mig_lens.specs.declared.faults.Kind.TheVariants as kind
 use Rattle.mig_lens.specs.declared.faults.PlanFault.{PlanFault}
 use Rattle.mig_lens.specs.declared.faults.Refusal.{Refusal}
 use Rattle.mig_lens.specs.declared.faults.Refusal.TheVariants.{NameTaken, Unfinished}
 use Rattle.mig_lens.specs.declared.migrations.Migration.{Migration}
-use Rattle.mig_lens.specs.declared.migrations.Op.{Op}
 use Rattle.mig_lens.specs.declared.plans.Fate.{Fate}
+use Rattle.mig_lens.specs.declared.plans.Fate.TheVariants as fate
 use Rattle.mig_lens.specs.declared.plans.Plan.{Plan}
 use Rattle.mig_lens.specs.Laws.{AllBelow, Joins}
-use Rattle.mig_plan.specs.Laws.{adds_column}
 use Rattle.mig_lens.specs.Layout.{has_mark, is_make}
 use Rattle.mig_lens.specs.Lens.{IsWellFormed, fits, forward, outcomes, unfilled, unfilled_value}
-use Rattle.mig_lens.specs.Plan.{Table, table_numbered}
+use Rattle.mig_lens.specs.Plan.{Table, created_in, table_numbered}
 use Rattle.mig_plan.specs.Plan.{plan_of}
 use Rattle.sql_base.specs.Laws.{all_true, both, either_none}
 use Rattle.machine.specs.declared.events.Asked.{Asked}
 use Rattle.machine.specs.declared.events.Asked.TheVariants.{Read, Refused as NotRead}
 use Rattle.machine.specs.declared.events.Reply.TheVariants.{Start}
 use Rattle.row_rules.specs.declared.kinds.Kept.{Kept}
+use Rattle.machine.specs.declared.states.Mode.{Mode}
+use Rattle.machine.specs.declared.states.Mode.TheVariants.{Both, Calm}
 use Rattle.machine.specs.declared.states.State.{State}
-use Rattle.machine.specs.State.{lens_among, row_count, table_on}
+use Rattle.machine.specs.State.{fate_among, lens_among, lens_between, newer_schema, row_count, table_on}
 use Rattle.row_rules.specs.Site.{number_of, shape_of}
 use Rattle.machine.specs.Statement.{max_rows}
-use Rattle.machine.specs.Migrate.{active, begun_table, may_not_start, not_yet, numbers_of, planned, start, start_planned, started, steps_left, taken, too_heavy, unplanned, unrun}
+use Rattle.machine.specs.Migrate.{active, begun_table, created_tables, may_not_start, numbers_of, planned, start, start_planned, started, steps_left, taken, too_heavy, unplanned, unrun}
 use Rattle.machine.specs.Done.{Started}
 use Rattle.row_rules.specs.Steps.{begun_half, begun_row}
-use Rattle.machine.specs.Standing.{Ascends, HalfStands, IsState, NewStands, NoneLost, NumbersAscend, RowStands, RowsStand, VersionStands, may_miss}
-use Rattle.machine.proofs.Moving.{Carries, Rows, ascends_mapped, counts_kept, each, each_among, each_so, map_each, numbers_kept, rows_mapped, tables_mapped}
+use Rattle.machine.specs.Standing.{Ascends, FateAt, HalfStands, IsState, NewStands, NoneLost, NumbersAscend, RowStands, RowsStand, TablesStand, VersionStands, is_known, may_miss}
+use Rattle.machine.proofs.Moving.{Carries, Rows, ascends_mapped, counts_kept, each, each_append, each_both, each_list, each_number, each_so, either_way, map_each, number_each, numbers, numbers_kept, rows_mapped, tables_append, tables_mapped}
+use Rattle.machine.proofs.Pairs.{each_numbered}
+use Rattle.machine.proofs.Replacing.{each_row, rows_each}
 use Rattle.machine.specs.Below.{Below}
 use Rattle.machine.proofs.Outcomes.{Holds, Stands, holds_guarded, holds_then, holds_without}
 use Rattle.machine.proofs.SiteHalves.{same_key}
-use Rattle.machine.proofs.Joining.{Pair, paired}
+use Rattle.machine.proofs.Joining.{Pair, lacks_new, lens_at, paired, without_new}
 
 -- ---- a migration that may be started
-
-all_added : (at : ℕ) (ops : List Op) → unrun at ops ≡ None → list_all adds_column ops ≡ true
-all_added at [] h = refl
-all_added at (op ∷ ops) h = by_test (all_added (at + 1) ops) (adds_column op) h
-  where
-    by_test : (unrun (at + 1) ops ≡ None → list_all adds_column ops ≡ true) → (b : Bool) → (if b then unrun (at + 1) ops else Some (not_yet at)) ≡ None → (b && list_all adds_column ops) ≡ true
-    by_test more true h = more h
-    by_test more false h = cc
 
 abbrev left_of : Kind → Option Refusal
 left_of k = elim k [
@@ -76,13 +73,17 @@ not_taken false refusal h = refl
 abbrev or_refusal : Result Plan PlanFault → Result Plan Refusal
 or_refusal r = elim r [ Ok plan ↦ Ok plan | Err fault ↦ Err (unplanned fault) ]
 
-has_plan : (r : Result Plan PlanFault) (plan : Plan) → or_refusal r ≡ Ok plan → r ≡ Ok plan
+pub has_plan : (r : Result Plan PlanFault) (plan : Plan) → or_refusal r ≡ Ok plan → r ≡ Ok plan
 has_plan (Ok found) plan h = cc
 has_plan (Err fault) plan h = cc
 
+not_active : (mode : Mode) → active mode ≡ None → mode ≡ Calm
+not_active Calm h = refl
+not_active (Both name schema fates) h = cc
+
 -- What is so where a migration is started by this plan.
 record Begins (s : State) (m : Migration) (plan : Plan) : Type 0 where
-  added : list_all adds_column m.operations ≡ true
+  calm : s.mode ≡ Calm
   no_steps : s.kind ≡ kind.Nothing
   named : bytes_eq m.name s.version ≡ false
   is_plan : plan_of s.schema s.next_table m ≡ Ok plan
@@ -149,109 +150,319 @@ table_begun below s name plan table lens has joined ascend stand =
     let is : begun_table plan.fates table ≡ (table.0, map (begun_row lens) table.1) = ap (λ found. option_map_or (λ lens. (table.0, map (begun_row lens) table.1)) found table) has in
     subst (λ (made : Rows). Ascends made.1 × RowsStand t made.0 made.1) (sym is) (ascends_mapped (begun_row lens) (λ row. refl) table.1 ascend, rows_mapped s t table.0 (begun_row lens) table.1 one stand)
 
--- ---- the new version
+-- Of a table that the new version hasn't the rows stay as they are.
+dropped_row : (s : State) (name : List ℕ) (plan : Plan) (number : ℕ) → s.mode ≡ Calm →
+    table_numbered plan.schema number ≡ None → (row : Kept) → RowStands s number row →
+    RowStands (started s name plan) number row
+dropped_row s name plan number calm lacks row stands =
+    let t = started s name plan in
+    let none : table_on s New number ≡ None = ap (λ mode. option_and_then (λ schema. table_numbered schema number) (newer_schema mode)) calm in
+    let no_half = lacks_new (lens_between s.mode number) (table_on s Old number) (table_on s New number) row.key row.halves.new none stands.new in
+    record { old = stands.old; new = without_new (lens_between t.mode number) (table_on t Old number) (table_on t New number) row.key row.halves.new lacks no_half }
 
-abbrev Title : Type 0
-Title = List ℕ × ℕ
+table_dropped : (s : State) (name : List ℕ) (plan : Plan) (table : Rows) → s.mode ≡ Calm →
+    lens_among plan.fates table.0 ≡ None → table_numbered plan.schema table.0 ≡ None →
+    Carries s (started s name plan) (begun_table plan.fates) table
+table_dropped s name plan table calm none lacks ascend stand =
+    let t = started s name plan in
+    let rows = each_row t table.0 table.1 (each_so (RowStands s table.0) (RowStands t table.0) (dropped_row s name plan table.0 calm lacks) table.1 (rows_each s table.0 table.1 stand)) in
+    let is : begun_table plan.fates table ≡ table = ap (λ found. option_map_or (λ lens. (table.0, map (begun_row lens) table.1)) found table) none in
+    subst (λ (made : Rows). Ascends made.1 × RowsStand t made.0 made.1) (sym is) (ascend, rows)
 
-abbrev titles_of : List Table → List Title
-titles_of tables = map {B = Title} (λ table. (table.0, table.1)) tables
+-- A table of the old version, whichever its fate is.
+fate_carries : Below → (s : State) (name : List ℕ) (plan : Plan) (table : Rows) → s.mode ≡ Calm →
+    is_some (table_numbered s.schema table.0) ≡ true → (found : Option (ℕ × Fate)) →
+    fate_among plan.fates table.0 ≡ found → is_some found ≡ true →
+    FateAt s.schema plan.schema table.0 found →
+    Carries s (started s name plan) (begun_table plan.fates) table
+fate_carries below s name plan table calm known None is has h = cc
+fate_carries below s name plan table calm known (Some (owner, fate.Kept lens)) is has h = table_begun below s name plan table lens (ap lens_at is) h
+fate_carries below s name plan table calm known (Some (owner, fate.Dropped)) is has h = table_dropped s name plan table calm (ap lens_at is) h.1
+fate_carries below s name plan table calm known (Some (owner, fate.Created)) is has h = let no : is_some (table_numbered s.schema table.0) ≡ false = ap is_some h.0 in cc
 
--- Whether a version's tables have their rows depends on their numbers alone, and so does the next number.
-all_by_titles : (ns : List ℕ) (tables : List Table) → list_all (λ table. list_any (nat_eq (number_of table)) ns) tables ≡ list_all (λ title. list_any (nat_eq title.1) ns) (titles_of tables)
-all_by_titles ns [] = refl
-all_by_titles ns (table ∷ tables) = ap (λ b. list_any (nat_eq (number_of table)) ns && b) (all_by_titles ns tables)
+-- ---- created tables
 
-below_titles : (next : ℕ) (tables : List Table) → AllBelow next tables → Each (λ title. title.1 < next) (titles_of tables)
-below_titles next [] h = tt
-below_titles next (table ∷ tables) h = (h.0, below_titles next tables h.1)
+created_numbers : (ns : List ℕ) → numbers (map (λ number. (number, [])) ns) ≡ ns
+created_numbers [] = refl
+created_numbers (n ∷ ns) = ap (λ ns. n ∷ ns) (created_numbers ns)
 
-titles_below : (next : ℕ) (tables : List Table) → Each (λ title. title.1 < next) (titles_of tables) → AllBelow next tables
-titles_below next [] h = tt
-titles_below next (table ∷ tables) h = (h.0, titles_below next tables h.1)
+created_count : (ns : List ℕ) →
+    sum_by {X = Rows} (λ table. length table.1) (map (λ number. (number, [])) ns) ≡ 0
+created_count [] = refl
+created_count (n ∷ ns) =
+    let more : List Rows = map (λ number. (number, [])) ns in
+    omega (arith, sum_by-cons {X = Rows} (λ table. length table.1) (n, []) more, created_count ns)
 
-all_so : (p q : ℕ → Bool) → ((n : ℕ) → p n ≡ true → q n ≡ true) → (ns : List ℕ) → list_all p ns ≡ true → list_all q ns ≡ true
-all_so p q h [] all = refl
-all_so p q h (n ∷ ns) all =
-    let parts = both (p n) (list_all p ns) all in
-    all_true (q n) (list_all q ns) (h n parts.0) (all_so p q h ns parts.1)
+created_stand : (t : State) (ns : List ℕ) → TablesStand t (map (λ number. (number, [])) ns)
+created_stand t [] = tt
+created_stand t (n ∷ ns) = (tt, tt, created_stand t ns)
 
--- What holds of all of these numbers holds of one among them.
-all_at : (p : ℕ → Bool) (ns : List ℕ) (n : ℕ) → list_all p ns ≡ true → list_any (nat_eq n) ns ≡ true → p n ≡ true
-all_at p [] n all among = cc
-all_at p (m ∷ ns) n all among = by_test (all_at p ns n parts.1) (nat_eq n m) refl among
+-- A table that is created has a fate.
+created_has_fate : (fates : List (ℕ × Fate)) →
+    Each (λ number. is_some (fate_among fates number) ≡ true) (created_in fates)
+created_has_fate [] = tt
+created_has_fate ((first, kind) ∷ fates) = by_kind kind (created_has_fate fates)
   where
-    parts : (p m ≡ true) × (list_all p ns ≡ true)
-    parts = both (p m) (list_all p ns) all
+    by_test : (kind : Fate) (number : ℕ) (b : Bool) → is_some (fate_among fates number) ≡ true →
+        is_some (if b then Some (first, kind) else fate_among fates number) ≡ true
+    by_test kind number true h = refl
+    by_test kind number false h = h
 
-    by_test : (list_any (nat_eq n) ns ≡ true → p n ≡ true) → (b : Bool) → nat_eq n m ≡ b → (b || list_any (nat_eq n) ns) ≡ true → p n ≡ true
-    by_test more true is h = let same : m ≡ n = grind (arith, nat_tests) in subst (λ k. p k ≡ true) same parts.0
-    by_test more false is h = more h
+    later : (kind : Fate) → Each (λ number. is_some (fate_among fates number) ≡ true) (created_in fates) →
+        Each (λ number. is_some (fate_among ((first, kind) ∷ fates) number) ≡ true) (created_in fates)
+    later kind h = each_so (λ number. is_some (fate_among fates number) ≡ true) (λ number. is_some (fate_among ((first, kind) ∷ fates) number) ≡ true) (λ number h. by_test kind number (first == number) h) (created_in fates) h
 
-there_is : {X : Type 0} (found : Option X) → is_some found ≡ true → (x : X) × (found ≡ Some x)
+    by_kind : (kind : Fate) → Each (λ number. is_some (fate_among fates number) ≡ true) (created_in fates) →
+        Each (λ number. is_some (fate_among ((first, kind) ∷ fates) number) ≡ true) (created_in ((first, kind) ∷ fates))
+    by_kind (fate.Kept lens) h = later (fate.Kept lens) h
+    by_kind fate.Dropped h = later fate.Dropped h
+    by_kind fate.Created h =
+        let itself : (first == first) ≡ true = grind (arith, nat_tests) in
+        (ap (λ b. is_some (if b then Some (first, fate.Created) else fate_among fates first)) itself, later fate.Created h)
+
+-- And one with that fate is created.
+fate_is_created : (fates : List (ℕ × Fate)) (number owner : ℕ) →
+    fate_among fates number ≡ Some (owner, fate.Created) →
+    list_any (nat_eq number) (created_in fates) ≡ true
+fate_is_created [] number owner h = cc
+fate_is_created ((first, kind) ∷ fates) number owner h = by_test (first == number) refl kind (fate_is_created fates number owner) h
+  where
+    by_test : (b : Bool) → (first == number) ≡ b → (kind : Fate) →
+        (fate_among fates number ≡ Some (owner, fate.Created) → list_any (nat_eq number) (created_in fates) ≡ true) →
+        (if b then Some (first, kind) else fate_among fates number) ≡ Some (owner, fate.Created) → list_any (nat_eq number) (created_in ((first, kind) ∷ fates)) ≡ true
+    by_test true e (fate.Kept lens) more h = let no : Some (fate.Kept lens) ≡ Some fate.Created = ap (option_map (λ fate. fate.1)) h in cc
+    by_test true e fate.Dropped more h = let no : Some fate.Dropped ≡ Some fate.Created = ap (option_map (λ fate. fate.1)) h in cc
+    by_test true e fate.Created more h =
+        let same : nat_eq number first ≡ true = grind (arith, nat_tests) in
+        ap (λ b. b || list_any (nat_eq number) (created_in fates)) same
+    by_test false e (fate.Kept lens) more h = more h
+    by_test false e fate.Dropped more h = more h
+    by_test false e fate.Created more h = either_way (nat_eq number first) (list_any (nat_eq number) (created_in fates)) (more h)
+
+-- ---- numbers
+
+-- A number of one of these tables is below the next one.
+found_below : (next number : ℕ) (tables : List Table) → AllBelow next tables →
+    is_some (find {X = Table} (λ table. table.1 == number) tables) ≡ true → number < next
+found_below next number [] h has = cc
+found_below next number (table ∷ tables) h has = by_test (found_below next number tables h.1) (table.1 == number) refl has
+  where
+    by_test : (is_some (find {X = Table} (λ table. table.1 == number) tables) ≡ true → number < next) →
+        (b : Bool) → (table.1 == number) ≡ b →
+        is_some (if b then Some table else find {X = Table} (λ table. table.1 == number) tables) ≡ true →
+        number < next
+    by_test more true e has = let same : table.1 ≡ number = grind (arith, nat_tests) in subst (λ n. n < next) same h.0
+    by_test more false e has = more has
+
+below_more : (next more : ℕ) (tables : List Table) → AllBelow next tables → AllBelow (next + more) tables
+below_more next more [] h = tt
+below_more next more (table ∷ tables) h = (omega (arith, h.0), below_more next more tables h.1)
+
+from_next : (next n : ℕ) → Each (λ number. next ≤ number) (range_with_len next n)
+from_next next zero = tt
+from_next next (suc n) = (omega arith, each_so (λ number. next + 1 ≤ number) (λ number. next ≤ number) (λ number h. omega arith) (range_with_len (next + 1) n) (from_next (next + 1) n))
+
+counted_ascend : (next n : ℕ) → NumbersAscend (range_with_len next n)
+counted_ascend next zero = tt
+counted_ascend next (suc zero) = tt
+counted_ascend next (suc (suc n)) = (omega arith, counted_ascend (next + 1) (suc n))
+
+-- Numbers below the next one, and those from it on.
+ascend_append : (next : ℕ) (tables : List Rows) (ns : List ℕ) → NumbersAscend (numbers tables) →
+    Each (λ table. table.0 < next) tables → NumbersAscend ns → Each (λ number. next ≤ number) ns →
+    NumbersAscend (numbers tables ++ ns)
+ascend_append next [] ns a b c d = c
+ascend_append next (t ∷ []) [] a b c d = tt
+ascend_append next (t ∷ []) (n ∷ ns) a b c d = (omega (arith, b.0, d.0), c)
+ascend_append next (t ∷ u ∷ tables) ns a b c d = (a.0, ascend_append next (u ∷ tables) ns a.1 b.1 c d)
+
+-- ---- the versions
+
+-- More rows leave a version with all of its own.
+has_all_more : (ns more : List ℕ) (tables : List Table) →
+    list_all (λ table. list_any (nat_eq (number_of table)) ns) tables ≡ true →
+    list_all (λ table. list_any (nat_eq (number_of table)) (ns ++ more)) tables ≡ true
+has_all_more ns more [] h = refl
+has_all_more ns more (table ∷ tables) h =
+    let parts = both (list_any (nat_eq (number_of table)) ns) (list_all (λ (table : Table). list_any (nat_eq (number_of table)) ns) tables) h in
+    all_true (list_any (nat_eq (number_of table)) (ns ++ more)) (list_all (λ (table : Table). list_any (nat_eq (number_of table)) (ns ++ more)) tables)
+    (list_any-append (nat_eq (number_of table)) ns more ∙ ap (λ b. b || list_any (nat_eq (number_of table)) more) parts.0) (has_all_more ns more tables parts.1)
+
+pub there_is : {X : Type 0} (found : Option X) → is_some found ≡ true → (x : X) × (found ≡ Some x)
 there_is None h = cc
 there_is (Some x) h = (x, refl)
-
--- Each table of the old version has a lens, and each table with a lens is one of the new version's.
-planned_lens : Below → (s : State) (m : Migration) (plan : Plan) → IsState s → Begins s m plan → (number : ℕ) → is_some (table_numbered s.schema number) ≡ true → (lens : Lens) × (lens_among plan.fates number ≡ Some lens)
-planned_lens below s m plan stands begins number known =
-    there_is (lens_among plan.fates number) (below.lenses s.schema s.next_table m plan stands.version.schema_stands stands.version.below begins.added begins.is_plan number ∙ known)
-
-planned_join : Below → (s : State) (m : Migration) (plan : Plan) → IsState s → Begins s m plan → (number : ℕ) (lens : Lens) → lens_among plan.fates number ≡ Some lens → Joins lens number s.schema plan.schema
-planned_join below s m plan stands begins = below.join s.schema s.next_table m plan stands.version.schema_stands stands.version.below begins.is_plan
 
 known_shape : (found : Option Table) (shape : Shape) → option_map (λ table. table.2) found ≡ Some shape → is_some found ≡ true
 known_shape None shape h = cc
 known_shape (Some table) shape h = refl
 
-planned_version : Below → (s : State) (m : Migration) (plan : Plan) → IsState s → Begins s m plan → VersionStands plan.schema (numbers_of s) s.next_table
-planned_version below s m plan stands begins =
-    let same = below.tables s.schema s.next_table m plan stands.version.schema_stands stands.version.below begins.added begins.is_plan in
-    let ns = numbers_of s in
-    record {
-      schema_stands = below.schemas s.schema s.next_table m plan stands.version.schema_stands stands.version.below begins.is_plan;
-      rows = all_by_titles ns plan.schema.tables ∙ ap (list_all (λ (title : Title). list_any (nat_eq title.1) ns)) same ∙ sym (all_by_titles ns s.schema.tables) ∙ stands.version.rows;
-      known = all_so (λ n. is_some (table_numbered s.schema n)) (λ n. is_some (table_numbered plan.schema n)) still_known ns stands.version.known;
-      below = titles_below s.next_table plan.schema.tables (subst (Each (λ (title : Title). title.1 < s.next_table)) (sym same) (below_titles s.next_table s.schema.tables stands.version.below));
-    }
+-- A table that is found by its number has its rows, where all of a version's have theirs.
+has_rows : (ns : List ℕ) (number : ℕ) (tables : List Table) →
+    list_all (λ table. list_any (nat_eq (number_of table)) ns) tables ≡ true →
+    is_some (find {X = Table} (λ table. table.1 == number) tables) ≡ true →
+    list_any (nat_eq number) ns ≡ true
+has_rows ns number [] all has = cc
+has_rows ns number (table ∷ tables) all has =
+    let parts = both (list_any (nat_eq (number_of table)) ns) (list_all (λ (table : Table). list_any (nat_eq (number_of table)) ns) tables) all in
+    by_test parts.0 (has_rows ns number tables parts.1) (table.1 == number) refl has
   where
-    still_known : (number : ℕ) → is_some (table_numbered s.schema number) ≡ true → is_some (table_numbered plan.schema number) ≡ true
-    still_known number known =
-        let lens = planned_lens below s m plan stands begins number known in
-        let joined = planned_join below s m plan stands begins number lens.0 lens.1 in
-        known_shape (table_numbered plan.schema number) joined.after joined.in_new
+    by_test : list_any (nat_eq (number_of table)) ns ≡ true →
+        (is_some (find {X = Table} (λ table. table.1 == number) tables) ≡ true → list_any (nat_eq number) ns ≡ true) →
+        (b : Bool) → (table.1 == number) ≡ b →
+        is_some (if b then Some table else find {X = Table} (λ table. table.1 == number) tables) ≡ true →
+        list_any (nat_eq number) ns ≡ true
+    by_test here more true e has = let same : table.1 ≡ number = grind (arith, nat_tests) in subst (λ n. list_any (nat_eq n) ns ≡ true) same here
+    by_test here more false e has = more has
 
 -- ---- the whole state
 
-started_state : Below → (s : State) (m : Migration) (plan : Plan) → IsState s → Begins s m plan → IsState (started s m.name plan)
-started_state below s m plan stands begins =
-    let t = started s m.name plan in
-    let same_numbers : numbers_of t ≡ numbers_of s = numbers_kept (begun_table plan.fates) (begun_number plan.fates) s.tables in
-    let same_count : row_count t ≡ row_count s = counts_kept (begun_table plan.fates) (begun_count plan.fates) s.tables in
-    let carried = each_so (λ u. list_any (nat_eq u.0) (numbers_of s) ≡ true) (Carries s t (begun_table plan.fates)) carries s.tables (each_among s.tables) in
-    record {
-      steps = stands.steps;
-      version = subst (λ ns. VersionStands s.schema ns s.next_table) (sym same_numbers) stands.version;
-      mode = record {
-        version = subst (λ ns. VersionStands plan.schema ns s.next_table) (sym same_numbers) (planned_version below s m plan stands begins);
-        named = begins.named;
-        no_steps = begins.no_steps;
-        joined = planned_join below s m plan stands begins;
-        kept = λ number among. lens_at number (subst (λ ns. list_any (nat_eq number) ns ≡ true) same_numbers among);
-      };
-      numbers = subst NumbersAscend (sym same_numbers) stands.numbers;
-      tables = tables_mapped s t (begun_table plan.fates) s.tables carried stands.tables;
-      few = subst (λ n. n ≤ max_rows) (sym same_count) stands.few;
-      lost = λ none. record { columns = (stands.lost none).columns; rows = map_each (begun_table plan.fates) (λ table. NoneLost table.1) s.tables (each_so (λ table. NoneLost table.1) (λ table. NoneLost (begun_table plan.fates table).1) (begun_lost plan.fates) s.tables (stands.lost none).rows) };
-    }
-  where
-    lens_at : (number : ℕ) → list_any (nat_eq number) (numbers_of s) ≡ true → (lens : Lens) × (lens_among plan.fates number ≡ Some lens)
-    lens_at number among = planned_lens below s m plan stands begins number (all_at (λ n. is_some (table_numbered s.schema n)) (numbers_of s) number stands.version.known among)
+left_known : (old : Bool) (new : Option Table) → new ≡ None → (old || is_some new) ≡ true → old ≡ true
+left_known true new is h = refl
+left_known false None is h = h
+left_known false (Some new) is h = cc
 
-    carries : (u : Rows) → list_any (nat_eq u.0) (numbers_of s) ≡ true → Carries s (started s m.name plan) (begun_table plan.fates) u
-    carries u among =
-        let lens = lens_at u.0 among in
-        table_begun below s m.name plan u lens.0 lens.1 (planned_join below s m plan stands begins u.0 lens.0 lens.1)
+module _ (below : Below) (s : State) (m : Migration) (plan : Plan) (stands : IsState s) (begins : Begins s m plan) where
+  fates_stand : (number : ℕ) → FateAt s.schema plan.schema number (fate_among plan.fates number)
+  fates_stand number = by_fate (fate_among plan.fates number) refl
+    where
+      by_fate : (found : Option (ℕ × Fate)) → fate_among plan.fates number ≡ found →
+          FateAt s.schema plan.schema number found
+      by_fate None is = tt
+      by_fate (Some (owner, fate)) is = below.fates s.schema s.next_table m plan stands.version.schema_stands stands.version.below begins.is_plan number owner fate is
+
+  have_fates : (number : ℕ) →
+      (is_some (table_numbered s.schema number) || is_some (table_numbered plan.schema number)) ≡ true →
+      is_some (fate_among plan.fates number) ≡ true
+  have_fates = below.all s.schema s.next_table m plan stands.version.schema_stands stands.version.below begins.is_plan
+
+  -- ---- the tables of the old version
+
+  old_known : (number : ℕ) → is_known s number ≡ true → is_some (table_numbered s.schema number) ≡ true
+  old_known number known =
+      left_known (is_some (table_numbered s.schema number)) (table_on s New number) (ap (λ mode. option_and_then (λ schema. table_numbered schema number) (newer_schema mode)) begins.calm) known
+
+  each_old : Each (λ u. is_some (table_numbered s.schema u.0) ≡ true) s.tables
+  each_old = each_so (λ u. is_known s u.0 ≡ true) (λ u. is_some (table_numbered s.schema u.0) ≡ true) (λ u. old_known u.0) s.tables (each_number (is_known s) s.tables stands.known)
+
+  each_below : Each (λ u. u.0 < s.next_table) s.tables
+  each_below = each_so (λ u. is_some (table_numbered s.schema u.0) ≡ true) (λ u. u.0 < s.next_table) (λ u. found_below s.next_table u.0 s.schema.tables stands.version.below) s.tables each_old
+
+  each_carries : Each (Carries s (started s m.name plan) (begun_table plan.fates)) s.tables
+  each_carries = each_so (λ u. is_some (table_numbered s.schema u.0) ≡ true) (Carries s (started s m.name plan) (begun_table plan.fates)) carries s.tables each_old
+    where
+      carries : (u : Rows) → is_some (table_numbered s.schema u.0) ≡ true →
+          Carries s (started s m.name plan) (begun_table plan.fates) u
+      carries u known =
+          let has = have_fates u.0 (ap (λ b. b || is_some (table_numbered plan.schema u.0)) known) in
+          fate_carries below s m.name plan u begins.calm known (fate_among plan.fates u.0) refl has (fates_stand u.0)
+
+  -- ---- the tables that are created
+
+  counted : created_in plan.fates ≡ range_with_len s.next_table (length (created_in plan.fates))
+  counted = below.numbered s.schema s.next_table m plan stands.version.schema_stands stands.version.below begins.is_plan
+
+  created_above : Each (λ number. s.next_table ≤ number) (created_in plan.fates)
+  created_above = subst (Each (λ number. s.next_table ≤ number)) (sym counted) (from_next s.next_table (length (created_in plan.fates)))
+
+  created_ascend : NumbersAscend (created_in plan.fates)
+  created_ascend = subst NumbersAscend (sym counted) (counted_ascend s.next_table (length (created_in plan.fates)))
+
+  created_known : Each (λ number. is_some (table_numbered plan.schema number) ≡ true) (created_in plan.fates)
+  created_known =
+      each_both (λ number. is_some (fate_among plan.fates number) ≡ true) (λ number. s.next_table ≤ number) (λ number. is_some (table_numbered plan.schema number) ≡ true)
+      (λ number has above. by_fate number above (fate_among plan.fates number) has (fates_stand number)) (created_in plan.fates) (created_has_fate plan.fates) created_above
+    where
+      by_fate : (number : ℕ) → s.next_table ≤ number → (found : Option (ℕ × Fate)) → is_some found ≡ true →
+          FateAt s.schema plan.schema number found → is_some (table_numbered plan.schema number) ≡ true
+      by_fate number above None has h = cc
+      by_fate number above (Some (owner, fate.Kept lens)) has h = known_shape (table_numbered plan.schema number) h.after h.in_new
+      by_fate number above (Some (owner, fate.Created)) has h = h.1
+      by_fate number above (Some (owner, fate.Dropped)) has h =
+          let low = found_below s.next_table number s.schema.tables stands.version.below h.0 in
+          absurd (omega (arith, low, above))
+
+  -- ---- both versions' tables
+
+  same_numbers : numbers_of (started s m.name plan) ≡ numbers_of s ++ created_in plan.fates
+  same_numbers =
+      map-append (λ (table : Rows). table.0) (map (begun_table plan.fates) s.tables) (created_tables plan.fates)
+      ∙ ap (λ ns. ns ++ numbers (created_tables plan.fates)) (numbers_kept (begun_table plan.fates) (begun_number plan.fates) s.tables)
+      ∙ ap (λ ns. numbers_of s ++ ns) (created_numbers (created_in plan.fates))
+
+  -- A table of the new version has its rows.
+  new_among : (number : ℕ) → is_some (table_numbered plan.schema number) ≡ true →
+      list_any (nat_eq number) (numbers_of s ++ created_in plan.fates) ≡ true
+  new_among number has =
+      list_any-append (nat_eq number) (numbers_of s) (created_in plan.fates)
+      ∙ by_fate (fate_among plan.fates number) refl (have_fates number (either_way (is_some (table_numbered s.schema number)) (is_some (table_numbered plan.schema number)) has)) (fates_stand number)
+    where
+      by_fate : (found : Option (ℕ × Fate)) → fate_among plan.fates number ≡ found → is_some found ≡ true →
+          FateAt s.schema plan.schema number found →
+          (list_any (nat_eq number) (numbers_of s) || list_any (nat_eq number) (created_in plan.fates)) ≡ true
+      by_fate None is some h = cc
+      by_fate (Some (owner, fate.Kept lens)) is some h =
+          ap (λ b. b || list_any (nat_eq number) (created_in plan.fates)) (has_rows (numbers_of s) number s.schema.tables stands.version.rows (known_shape (table_numbered s.schema number) h.before h.in_old))
+      by_fate (Some (owner, fate.Created)) is some h =
+          either_way (list_any (nat_eq number) (numbers_of s)) (list_any (nat_eq number) (created_in plan.fates)) (fate_is_created plan.fates number owner is)
+      by_fate (Some (owner, fate.Dropped)) is some h = let no : is_some (table_numbered plan.schema number) ≡ false = ap is_some h.1 in cc
+
+  old_version : VersionStands s.schema (numbers_of s ++ created_in plan.fates) (s.next_table + length (created_in plan.fates))
+  old_version = record {
+    schema_stands = stands.version.schema_stands;
+    rows = has_all_more (numbers_of s) (created_in plan.fates) s.schema.tables stands.version.rows;
+    below = below_more s.next_table (length (created_in plan.fates)) s.schema.tables stands.version.below;
+  }
+
+  new_version : VersionStands plan.schema (numbers_of s ++ created_in plan.fates) (s.next_table + length (created_in plan.fates))
+  new_version = record {
+    schema_stands = below.schemas s.schema s.next_table m plan stands.version.schema_stands stands.version.below begins.is_plan;
+    rows = each_list (λ (table : Table). list_any (nat_eq (number_of table)) (numbers_of s ++ created_in plan.fates)) plan.schema.tables
+        (each_so (λ (table : Table). is_some (table_numbered plan.schema (number_of table)) ≡ true) (λ (table : Table). list_any (nat_eq (number_of table)) (numbers_of s ++ created_in plan.fates) ≡ true)
+        (λ table. new_among (number_of table)) plan.schema.tables (each_numbered plan.schema.tables));
+    below = below.next s.schema s.next_table m plan stands.version.schema_stands stands.version.below begins.is_plan;
+  }
+
+  all_known : list_all (is_known (started s m.name plan)) (numbers_of s ++ created_in plan.fates) ≡ true
+  all_known =
+      let t = started s m.name plan in
+      let old = each_so (λ u. is_some (table_numbered s.schema u.0) ≡ true) (λ u. is_known t u.0 ≡ true) (λ u h. ap (λ b. b || is_some (table_numbered plan.schema u.0)) h) s.tables each_old in
+      let new = each_so (λ number. is_some (table_numbered plan.schema number) ≡ true) (λ number. is_known t number ≡ true) (λ number h. either_way (is_some (table_numbered s.schema number)) (is_some (table_numbered plan.schema number)) h) (created_in plan.fates) created_known in
+      list_all-append (is_known t) (numbers_of s) (created_in plan.fates)
+      ∙ all_true (list_all (is_known t) (numbers_of s)) (list_all (is_known t) (created_in plan.fates)) (number_each (is_known t) s.tables old) (each_list (is_known t) (created_in plan.fates) new)
+
+  no_more_rows : row_count (started s m.name plan) ≡ row_count s
+  no_more_rows =
+      let all = sum_by-append (λ (table : Rows). length table.1) (map (begun_table plan.fates) s.tables) (created_tables plan.fates) in
+      let same = counts_kept (begun_table plan.fates) (begun_count plan.fates) s.tables in
+      let none = created_count (created_in plan.fates) in
+      omega (arith, all, same, none)
+
+  nothing_lost : Each (λ (table : Rows). NoneLost table.1) s.tables →
+      Each (λ (table : Rows). NoneLost table.1) (started s m.name plan).tables
+  nothing_lost none =
+      each_append (λ (table : Rows). NoneLost table.1) (map (begun_table plan.fates) s.tables) (created_tables plan.fates)
+      (map_each (begun_table plan.fates) (λ table. NoneLost table.1) s.tables (each_so (λ table. NoneLost table.1) (λ table. NoneLost (begun_table plan.fates table).1) (begun_lost plan.fates) s.tables none))
+      (map_each {Y = Rows} (λ number. (number, [])) (λ table. NoneLost table.1) (created_in plan.fates) (each (λ number. NoneLost []) (λ number. tt) (created_in plan.fates)))
+
+  started_state : IsState (started s m.name plan)
+  started_state =
+      let t = started s m.name plan in
+      record {
+        steps = stands.steps;
+        version = subst (λ ns. VersionStands s.schema ns t.next_table) (sym same_numbers) old_version;
+        mode = record {
+          version = subst (λ ns. VersionStands plan.schema ns t.next_table) (sym same_numbers) new_version;
+          named = begins.named;
+          no_steps = begins.no_steps;
+          fates_stand = fates_stand;
+          all = have_fates;
+        };
+        numbers = subst NumbersAscend (sym same_numbers) (ascend_append s.next_table s.tables (created_in plan.fates) stands.numbers each_below created_ascend created_above);
+        known = subst (λ ns. list_all (is_known t) ns ≡ true) (sym same_numbers) all_known;
+        tables = tables_append t (map (begun_table plan.fates) s.tables) (created_tables plan.fates) (tables_mapped s t (begun_table plan.fates) s.tables each_carries stands.tables) (created_stand t (created_in plan.fates));
+        few = subst (λ n. n ≤ max_rows) (sym no_more_rows) stands.few;
+        lost = λ none. record { columns = (stands.lost none).columns; rows = nothing_lost (stands.lost none).rows };
+      }
 
 -- What is so where nothing refuses the start.
 begins_so : (s : State) (m : Migration) (plan : Plan) → may_not_start s m ≡ None → planned s m ≡ Ok plan → Begins s m plan
@@ -260,7 +471,7 @@ begins_so s m plan allowed is =
     let tidy = either_none (steps_left s) (option_or (active s.mode) (taken s m.name)) run.1 in
     let free = either_none (active s.mode) (taken s m.name) tidy.1 in
     record {
-      added = all_added 0 m.operations run.0;
+      calm = not_active s.mode free.0;
       no_steps = no_left s.kind tidy.0;
       named = not_taken (bytes_eq m.name s.version) (NameTaken m.name) free.1;
       is_plan = has_plan (plan_of s.schema s.next_table m) plan is;

@@ -1,7 +1,8 @@
 -- The laws of the layers below that the laws of this one rest on.
 use Rattle.sql_eval.specs.Laws.{TypedIsSound}
 use Rattle.mig_lens.specs.Laws.{BackwardCarries, BackwardFits, ForwardCarries, ForwardFits}
-use Rattle.mig_plan.specs.Laws.{HasLenses, KeepsTables, OfAddedColumns, PlannedLensesJoin, PlansKeepSchemas}
+use Rattle.row_rules.specs.Laws.{ChangesKeepOrder}
+use Rattle.mig_plan.specs.Laws.{CreatedTablesAreNumbered, PlannedFatesStand, PlansKeepSchemas, PlansStayBelow, TablesHaveFates}
 
 pub record Below : Type 0 where
   pub typed : TypedIsSound
@@ -9,7 +10,11 @@ pub record Below : Type 0 where
   pub backward : BackwardFits
   pub forward_carries : ForwardCarries
   pub backward_carries : BackwardCarries
-  pub join : PlannedLensesJoin
+  -- rows
+  pub order : ChangesKeepOrder
+  -- plans
   pub schemas : PlansKeepSchemas
-  pub tables : OfAddedColumns KeepsTables
-  pub lenses : OfAddedColumns HasLenses
+  pub fates : PlannedFatesStand
+  pub all : TablesHaveFates
+  pub numbered : CreatedTablesAreNumbered
+  pub next : PlansStayBelow

@@ -1,7 +1,8 @@
 -- What holds of the machine's steps and runs.
 use Rattle.machine.specs.Migrate.{may_not_start, not_filled, numbers_of, planned, started}
 use Rattle.std.specs.Prelude.{◌≡◌, ◌<◌, ◌≤◌, ◌==◌, ℕ, Bool, true, false, List, None, Ok, is_none, sum_by, if◌then◌else◌, Option, Some, is_some}
-use Rattle.std.specs.List.{count_by, AllByRecursion, filter}
+use Rattle.std.specs.List.{count_by, AllByRecursion}
+use Rattle.std.specs.Option.{option_map}
 use Rattle.sql_base.specs.declared.shapes.Shape.{Shape}
 use Rattle.sql_base.specs.declared.values.Value.{Value}
 use Rattle.mig_lens.specs.declared.columns.Lens.{Lens}
@@ -20,15 +21,15 @@ use Rattle.machine.specs.declared.states.State.{State}
 use Rattle.mig_lens.specs.Layout.{has_mark}
 use Rattle.mig_lens.specs.Lens.{forward, unfilled}
 use Rattle.row_rules.specs.Site.{shown, Beside, Site, number_of, shape_of}
-use Rattle.machine.specs.State.{Found, beginning, site_of, Shared, rows_of, shared, table_of, lens_among}
+use Rattle.machine.specs.State.{Found, beginning, site_of, Shared, rows_of, shared, table_of, table_on, lens_among}
 use Rattle.machine.specs.Lawful.{IsLawful}
 use Rattle.machine.specs.Follows.{goes_on_completing, goes_on_filling}
-use Rattle.machine.specs.Standing.{IsState, Ascends, RowStands, RowsStand}
+use Rattle.machine.specs.Standing.{IsState, Ascends, RowStands, RowsStand, is_known}
 use Rattle.machine.specs.Statement.{max_rows, Shows, Writes, begun}
 use Rattle.machine.specs.Step.{IsPlainStep, LaneRun, LaneStep, Run, Step}
-use Rattle.row_rules.specs.Changes.{after_changes, changes}
+use Rattle.row_rules.specs.Changes.{changes}
 use Rattle.machine.specs.Sites.{ChangeAgrees, ChangeStands, HalvesAgree, JobStands, PairStands, SiteRow, SiteStands, TableStands}
-use Rattle.machine.specs.Words.{Change, Expr, Items, Job, Stmt, Both, Fate, Migration, Plan, Schema, table_numbered}
+use Rattle.machine.specs.Words.{Change, Expr, Items, Job, Stmt, Both, Fate, Migration, Plan, Schema}
 
 -- A step leads from such a state to such a state.
 abbrev pub StepsKeepStates : Type 0
@@ -155,10 +156,6 @@ ChangesKeep =
     (s : State) (found : Found) (what : Job) (older : List Kept) (all : List Change) → IsState s → TableStands s found → JobStands (shape_of found.table) what → AllByRecursion (SiteRow (λ lost. Unit {0}) (site_of s found)) older →
     changes (site_of s found) what older ≡ Ok all → AllByRecursion (ChangeStands (λ lost. Unit {0}) (site_of s found)) all
 
--- Rows that ascend do so after changes.
-abbrev pub ChangedRowsAscend : Type 0
-ChangedRowsAscend = (all : List Change) (rows : List Kept) → Ascends rows → Ascends (after_changes all rows)
-
 -- In the rows that a job puts carried columns agree, where they do in the rows that it is done to.
 abbrev pub ChangesAgree : Type 0
 ChangesAgree =
@@ -171,23 +168,27 @@ ChangesAgree =
 abbrev pub TablesHaveTheirRows : Type 0
 TablesHaveTheirRows = (s : State) → IsState s → AllByRecursion (λ table. rows_of s table.0 ≡ table.1) s.tables
 
--- Both versions have it, with the lens that the plan gave it.
-abbrev pub IsShared : State → List (ℕ × Fate) → ℕ × List Kept → Type 0
-IsShared s fates table = (pair : Shared) × (shared s table.0 ≡ Some pair) × (lens_among fates table.0 ≡ Some pair.lens)
+-- Each is one of a version that stands.
+abbrev pub TablesAreKnown : Type 0
+TablesAreKnown = (s : State) → IsState s → AllByRecursion (λ table. is_known s table.0 ≡ true) s.tables
 
--- While a migration is active both versions have each table.
-abbrev pub TablesAreShared : Type 0
-TablesAreShared = (s : State) (name : List ℕ) (schema : Schema) (fates : List (ℕ × Fate)) → IsState s → s.mode ≡ Both name schema fates → AllByRecursion (IsShared s fates) s.tables
+-- A table that both versions have is joined by a lens.
+abbrev pub BothAreShared : Type 0
+BothAreShared =
+    (s : State) (number : ℕ) → IsState s → is_some (table_on s Old number) ≡ true → is_some (table_on s New number) ≡ true →
+    is_some (shared s number) ≡ true
 
--- So the new version alone has them all.
-abbrev pub TablesStay : Type 0
-TablesStay = (s : State) (name : List ℕ) (schema : Schema) (fates : List (ℕ × Fate)) → IsState s → s.mode ≡ Both name schema fates → filter (λ table. is_some (table_numbered schema table.0)) s.tables ≡ s.tables
+-- It is joined by the lens that the plan gave it, and each table with such a lens is one that both versions have.
+abbrev pub SharedByLenses : Type 0
+SharedByLenses =
+    (s : State) (name : List ℕ) (schema : Schema) (fates : List (ℕ × Fate)) (number : ℕ) → IsState s → s.mode ≡ Both name schema fates →
+    option_map (λ pair. pair.lens) (shared s number) ≡ lens_among fates number
 
--- Where none is still to be filled each row has its new half.
+-- Where none is still to be filled, each row of a table that the new version has has its new half.
 abbrev pub FilledRowsHaveHalves : Type 0
 FilledRowsHaveHalves =
-    (s : State) (name : List ℕ) (schema : Schema) (fates : List (ℕ × Fate)) → IsState s → s.mode ≡ Both name schema fates → not_filled s (numbers_of s) ≡ None →
-    AllByRecursion (λ table. AllByRecursion (λ row. is_some row.halves.new ≡ true) table.1) s.tables
+    (s : State) → IsState s → not_filled s (numbers_of s) ≡ None →
+    AllByRecursion (λ table. is_some (table_on s New table.0) ≡ true → AllByRecursion (λ row. is_some row.halves.new ≡ true) table.1) s.tables
 
 -- What a migration begins with stands.
 abbrev pub StartsStand : Type 0

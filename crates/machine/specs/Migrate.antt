@@ -1,7 +1,7 @@
 -- What the machine answers to the commands of a migration, and what they leave.
 --
 -- That a migration is started, that the rows which stood then are filled by `up` in batches, and that it is then completed, which takes the old version away: pgroll's documentation. All else is our own.
-use Rattle.std.specs.Prelude.{ℕ, ◌+◌, ℤ, List, [], ◌∷◌, ◌++◌, ◌==◌, Bool, false, ◌||◌, Option, Some, None, Result, Ok, Err, codes, decimal, is_some, length, map, nat_lt, not, take, unwrap_or, sum_by, if◌then◌else◌}
+use Rattle.std.specs.Prelude.{ℕ, ◌+◌, ℤ, List, [], ◌∷◌, ◌++◌, ◌==◌, Bool, true, false, ◌||◌, Option, Some, None, Result, Ok, Err, codes, decimal, is_some, length, map, nat_lt, not, take, unwrap_or, sum_by, if◌then◌else◌}
 use Rattle.std.specs.List.{filter, filter_map, list_any, zip}
 use Rattle.std.specs.Option.{option_and_then, option_map, option_map_or, option_or}
 use Rattle.std.specs.Str.{bytes_eq}
@@ -11,8 +11,9 @@ use Rattle.mig_lens.specs.declared.faults.PlanFault.{PlanFault}
 use Rattle.mig_lens.specs.declared.faults.PlanFault.TheVariants as plan_fault
 use Rattle.mig_lens.specs.declared.faults.Refusal.TheVariants.{AlreadyActive, BackfillRefused, BadExpr, BadJson, BadType, ColumnTwice, DownNeeded, Exists, KeyColumn, Limit, NameTaken, NoActive, NoSuchColumn, NoSuchTable, NotFilled, NotValid, Unfinished, UpNeeded}
 use Rattle.mig_lens.specs.declared.migrations.Op.{Op}
-use Rattle.mig_plan.specs.Laws.{adds_column}
+use Rattle.mig_lens.specs.declared.migrations.Op.TheVariants as op
 use Rattle.mig_lens.specs.Lens.{is_carry}
+use Rattle.mig_lens.specs.Plan.{created_in}
 use Rattle.mig_plan.specs.Plan.{plan_of}
 use Rattle.row_rules.specs.Changes.{cause_together, changes}
 use Rattle.row_rules.specs.Rows.{rows_at}
@@ -35,14 +36,26 @@ steps_left s = elim s.kind [
 
 -- ---- START
 
--- An operation that isn't run yet, by its place. So far that is every one but add_column.
+-- Whether an operation is run yet: so far those on columns, and create_table.
+abbrev pub is_run : Op → Bool
+is_run (op.CreateTable name columns) = true
+is_run (op.DropTable name) = false
+is_run (op.RenameTable from to) = false
+is_run (op.AddColumn name column up) = true
+is_run (op.DropColumn table column down) = true
+is_run (op.RenameColumn table from to) = true
+is_run (op.AlterColumn table column ty nullable default unique check up down) = true
+is_run (op.CreateConstraint table name columns check up down) = false
+is_run (op.DropConstraint table name up down) = false
+
+-- An operation that isn't run yet, by its place.
 abbrev pub not_yet : ℕ → Refusal
 not_yet at = BadJson (codes "operations[" ++ (decimal at ++ codes "]"))
 
 -- The first of these operations that isn't; the first of them has this place.
 abbrev pub unrun : ℕ → List Op → Option Refusal
 unrun at [] = None
-unrun at (op ∷ ops) = if adds_column op then unrun (at + 1) ops else Some (not_yet at)
+unrun at (op ∷ ops) = if is_run op then unrun (at + 1) ops else Some (not_yet at)
 
 -- P1: a migration is active.
 abbrev pub active : Mode → Option Refusal
@@ -86,9 +99,17 @@ has_heavy fates table = option_map_or (λ lens. show_heavy lens table.1) (lens_a
 abbrev pub too_heavy : State → Plan → Option Refusal
 too_heavy s plan = if list_any (has_heavy plan.fates) s.tables then Some (Limit (codes "row")) else None
 
--- (No operation so far creates a table, so the next number stays.)
+-- The tables that the migration creates, in order of creation: each begins without a row.
+abbrev pub created_tables : List (ℕ × Fate) → List (ℕ × List Kept)
+created_tables fates = map (λ number. (number, [])) (created_in fates)
+
+-- The two versions stand, and the numbers of created tables aren't used again.
 abbrev pub started : State → List ℕ → Plan → State
-started s name plan = record s { mode = Both name plan.schema plan.fates; tables = map (begun_table plan.fates) s.tables }
+started s name plan = record s {
+  mode = Both name plan.schema plan.fates;
+  next_table = s.next_table + length (created_in plan.fates);
+  tables = map (begun_table plan.fates) s.tables ++ created_tables plan.fates;
+}
 
 abbrev pub start_planned : State → Migration → Plan → CommandOutcome
 start_planned s m plan =

@@ -1,28 +1,27 @@
 -- Which states there are: what holds of every state that a run reaches.
 --
 -- The definitions of the machine say what happens in any state at all. In such a state they say just what their words say: tables stand in order of creation, rows in ascending key, and no name means two things.
-use Rattle.std.specs.Prelude.{◌≡◌, ◌⊎◌, ◌≤◌, ◌<◌, ℕ, ℤ, Bool, true, false, ◌==◌, List, [], ◌∷◌, Option, Some, None, is_some, nat_eq}
+use Rattle.std.specs.Prelude.{◌≡◌, ◌⊎◌, ◌≤◌, ◌<◌, ◌||◌, ℕ, ℤ, Bool, true, false, ◌==◌, List, [], ◌∷◌, Option, Some, None, is_some, nat_eq}
 use Rattle.std.specs.List.{AllByRecursion, list_all, list_any}
 use Rattle.std.specs.Option.{option_map_or}
 use Rattle.std.specs.Str.{bytes_eq}
 use Rattle.sql_base.specs.Fit.{row_fits}
 use Rattle.sql_base.specs.declared.shapes.Schema.{Schema}
 use Rattle.sql_base.specs.declared.values.Value.{Value}
-use Rattle.mig_lens.specs.declared.columns.Lens.{Lens}
 use Rattle.mig_lens.specs.declared.columns.Side.TheVariants.{Old, New}
 use Rattle.mig_lens.specs.declared.faults.Kind.{Kind}
 use Rattle.mig_lens.specs.declared.faults.Kind.TheVariants.{Nothing, Complete, Rollback}
 use Rattle.mig_lens.specs.declared.plans.Fate.{Fate}
-use Rattle.mig_lens.specs.Laws.{AllBelow, IsSchema, Joins}
+use Rattle.mig_lens.specs.Laws.{AllBelow, FateStands, IsSchema}
 use Rattle.mig_lens.specs.Layout.{has_mark}
-use Rattle.mig_lens.specs.Plan.{Table, table_numbered}
+use Rattle.mig_lens.specs.Plan.{Table}
 use Rattle.row_rules.specs.declared.kinds.Kept.{Kept}
 pub use Rattle.row_rules.specs.Rows.{Ascends}
 use Rattle.machine.specs.declared.states.Mode.{Mode}
 use Rattle.machine.specs.declared.states.Mode.TheVariants.{Calm, Both}
 use Rattle.machine.specs.declared.states.State.{State}
 use Rattle.row_rules.specs.Site.{key_of, number_of, shape_of}
-use Rattle.machine.specs.State.{Shared, lens_among, row_count, shared, table_on}
+use Rattle.machine.specs.State.{Shared, fate_among, row_count, shared, table_on}
 use Rattle.machine.specs.Statement.{max_rows}
 use Rattle.machine.specs.Migrate.{numbers_of}
 
@@ -68,25 +67,29 @@ NumbersAscend (number ∷ next ∷ numbers) = (number < next) × NumbersAscend (
 abbrev pub has_all : List ℕ → Schema → Bool
 has_all numbers schema = list_all (λ table. list_any (nat_eq (number_of table)) numbers) schema.tables
 
--- Each of these numbers is that of one of the version's tables.
-abbrev pub all_known : Schema → List ℕ → Bool
-all_known schema numbers = list_all (λ number. is_some (table_numbered schema number)) numbers
-
+-- The schema is well formed, each of its tables has its rows, and the next table's number is above all of theirs.
 pub record VersionStands (schema : Schema) (numbers : List ℕ) (next : ℕ) : Type 0 where
   pub schema_stands : IsSchema schema
   pub rows : has_all numbers schema ≡ true
-  -- So far no operation creates or drops a table.
-  pub known : all_known schema numbers ≡ true
   pub below : AllBelow next schema.tables
 
--- The new version, beside the old one: another name, and lenses that join the two.
+-- A version that stands has the table of this number.
+abbrev pub is_known : State → ℕ → Bool
+is_known s number = is_some (table_on s Old number) || is_some (table_on s New number)
+
+-- The fate of the table of this number, where it has one: both versions have the table, joined by the lens, or one of
+-- the two has it alone.
+abbrev pub FateAt : Schema → Schema → ℕ → Option (ℕ × Fate) → Type 0
+FateAt old new number None = Unit {0}
+FateAt old new number (Some fate) = FateStands number old new fate.1
+
+-- The new version, beside the old one: another name, and for each table of either its fate.
 pub record NewerStands (s : State) (name : List ℕ) (schema : Schema) (fates : List (ℕ × Fate)) : Type 0 where
   pub version : VersionStands schema (numbers_of s) s.next_table
   pub named : bytes_eq name s.version ≡ false
   pub no_steps : s.kind ≡ Nothing
-  pub joined : (number : ℕ) (lens : Lens) → lens_among fates number ≡ Some lens → Joins lens number s.schema schema
-  -- So far no operation creates or drops a table.
-  pub kept : (number : ℕ) → list_any (nat_eq number) (numbers_of s) ≡ true → (lens : Lens) × (lens_among fates number ≡ Some lens)
+  pub fates_stand : (number : ℕ) → FateAt s.schema schema number (fate_among fates number)
+  pub all : (number : ℕ) → is_known s number ≡ true → is_some (fate_among fates number) ≡ true
 
 abbrev pub ModeStands : State → Mode → Type 0
 ModeStands s Calm = Unit {0}
@@ -119,6 +122,8 @@ pub record IsState (s : State) : Type 0 where
   pub version : VersionStands s.schema (numbers_of s) s.next_table
   pub mode : ModeStands s s.mode
   pub numbers : NumbersAscend (numbers_of s)
+  -- Each table with rows is one of a version that stands.
+  pub known : list_all (is_known s) (numbers_of s) ≡ true
   pub tables : TablesStand s s.tables
   pub few : row_count s ≤ max_rows
   pub lost : may_lose s.kind s.left ≡ false → NothingLost s

@@ -61,8 +61,12 @@ table_of s (named ∷ path) name = option_or (table_through s named name) (table
 
 -- ---- tables that both versions have
 
+-- The fate of the table of a number.
+abbrev pub fate_among : List (ℕ × Fate) → ℕ → Option (ℕ × Fate)
+fate_among fates number = find (λ fate. fate.0 == number) fates
+
 abbrev pub lens_among : List (ℕ × Fate) → ℕ → Option Lens
-lens_among fates number = option_and_then (λ fate. lens_in fate.1) (find (λ fate. fate.0 == number) fates)
+lens_among fates number = option_and_then (λ fate. lens_in fate.1) (fate_among fates number)
 
 abbrev pub lens_between : Mode → ℕ → Option Lens
 lens_between Calm number = None

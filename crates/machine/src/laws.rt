@@ -1,11 +1,12 @@
 //! Laws of the machine, over its definitions alone. Each is the contract of a function that does nothing.
 ghost use Rattle.machine.specs.Below.{Below};
-ghost use Rattle.machine.specs.Laws.{StepsKeepStates, RunsReachStates, RefusalsChangeNothing, BegunHalvesAreMade, OldShowsOldHalves, PlainStepsAreSteps, LaneStepsAreSteps, LaneRunsAreRuns, StepsKeepLaws, RunsReachLawful, OnlyCommandsAreRefused, BatchesLeaveFewer, UnfilledRowsAreFew, StepsLeaveFewer, StepsAreFew, FoundStands, WritesStand, ShowsStand, SharedStands, FillingStands, RowsStandBy, RowsOnSites, ChangesKeep, ChangedRowsAscend, ChangesAgree, TablesHaveTheirRows, TablesAreShared, TablesStay, FilledRowsHaveHalves, StartsStand};
+ghost use Rattle.machine.specs.Laws.{StepsKeepStates, RunsReachStates, RefusalsChangeNothing, BegunHalvesAreMade, OldShowsOldHalves, PlainStepsAreSteps, LaneStepsAreSteps, LaneRunsAreRuns, StepsKeepLaws, RunsReachLawful, OnlyCommandsAreRefused, BatchesLeaveFewer, UnfilledRowsAreFew, StepsLeaveFewer, StepsAreFew, FoundStands, WritesStand, ShowsStand, SharedStands, FillingStands, RowsStandBy, RowsOnSites, ChangesKeep, ChangesAgree, TablesHaveTheirRows, TablesAreKnown, BothAreShared, SharedByLenses, FilledRowsHaveHalves, StartsStand};
 
 use mig_lens::laws::{carried_columns_keep_their_values, made_halves_fit};
 use mig_plan::laws::{
-    added_columns_keep_tables, planned_lenses_join, planned_schemas_are_well_formed,
+    created_tables_are_numbered, planned_schemas_are_well_formed, planned_tables_have_fates,
 };
+use row_rules::laws::changes_keep_order;
 use sql_eval::laws::typed_values_are_of_their_types;
 
 // What the layers below say of values, of lenses and of plans.
@@ -15,14 +16,15 @@ fn laws_below()
     typed_values_are_of_their_types();
     made_halves_fit();
     carried_columns_keep_their_values();
-    planned_lenses_join();
+    changes_keep_order();
     planned_schemas_are_well_formed();
-    added_columns_keep_tables();
+    planned_tables_have_fates();
+    created_tables_are_numbered();
 }
 
 /// A step from a state that stands leads to one, and so does every run that begins as the program does: rows have
-/// their halves, which fit their shapes and have the row's key; rows ascend by key; schemas are well formed; the
-/// lenses join the two versions.
+/// their halves, which fit their shapes and have the row's key; rows ascend by key; schemas are well formed; each table
+/// of two versions that stand is joined by its lens, or is one version's alone.
 pub fn states_stand()
     ensures steps { StepsKeepStates }
     ensures runs { RunsReachStates }
@@ -99,7 +101,6 @@ pub fn sites_stand()
     ensures rows { RowsStandBy }
     ensures on_site { RowsOnSites }
     ensures changes { ChangesKeep }
-    ensures ascend { ChangedRowsAscend }
 {
     laws_below();
 }
@@ -112,13 +113,14 @@ pub fn carried_columns_agree()
     laws_below();
 }
 
-/// In a state that stands each table has the rows of its number; while a migration is active both versions have each table,
-/// so all of them stay when it is completed, and where no row is still to be filled each has its new half. What a
-/// migration begins with stands.
+/// In a state that stands each table has the rows of its number, and is one of a version that stands. A table that both
+/// versions have is joined by a lens, the one that the plan gave it, and only such a table has one. Where no row is still
+/// to be filled, each row of a table that the new version has has its new half. What a migration begins with stands.
 pub fn tables_stand()
     ensures rows { TablesHaveTheirRows }
-    ensures shared { TablesAreShared }
-    ensures stay { TablesStay }
+    ensures known { TablesAreKnown }
+    ensures both { BothAreShared }
+    ensures lenses { SharedByLenses }
     ensures filled { FilledRowsHaveHalves }
     ensures starts { StartsStand }
 {

@@ -8,7 +8,7 @@ pub use crate::replies::{
     written_reply,
 };
 pub use crate::rows::{MAX_ROWS, row_count};
-pub use crate::start::{may_not_start, planned};
+pub use crate::start::{created_in, may_not_start, planned};
 pub use crate::statement::{BegunRef, MAX_INSERT, begun};
 pub use crate::tables::{
     FoundTable, SharedTable, filling_site, lens_among, lost_columns_of, numbered, rows_of, shared,

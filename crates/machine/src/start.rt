@@ -1,7 +1,7 @@
 //! What the start of a migration comes to.
-ghost use Rattle.std.specs.Prelude.{◌≡◌, IfOk, None, Some, map};
+ghost use Rattle.std.specs.Prelude.{◌≡◌, ◌+◌, ◌++◌, ◌<◌, ◌^◌, [], IfOk, None, Some, length, map};
 ghost use Rattle.std.specs.List.{list_any};
-ghost use Rattle.mig_plan.specs.Laws.{adds_column};
+ghost use Rattle.mig_lens.specs.Plan.{created_in, created_number};
 ghost use Rattle.row_rules.specs.Outcome.{Answers};
 ghost use Rattle.row_rules.specs.Steps as steps;
 ghost use Rattle.machine.specs.Migrate as spec;
@@ -12,6 +12,7 @@ use crate::refusals::{limit, steps_left};
 use crate::states::{Mode, State};
 use crate::tables::lens_among;
 use mig_lens::{Fate, Lens, Migration, Op, Plan, PlanFault, Refusal};
+use mig_plan::laws::created_tables_are_numbered;
 use mig_plan::plan;
 use row_rules::{Kept, Stop, begun_row, show_heavy};
 use sql_base::{Copying, List, Name, NoMemory};
@@ -28,16 +29,16 @@ fn not_yet(alloc: Global, at: u64) -> Result<Refusal, NoMemory>
 }
 
 fn is_run(op: &Op) -> bool
-    ensures { result ≡ adds_column op.now }
+    ensures { result ≡ spec.is_run op.now }
 {
     match op {
-        Op::AddColumn { .. } => true,
         Op::CreateTable { .. }
-        | Op::DropTable { .. }
-        | Op::RenameTable { .. }
+        | Op::AddColumn { .. }
         | Op::DropColumn { .. }
         | Op::RenameColumn { .. }
-        | Op::AlterColumn { .. }
+        | Op::AlterColumn { .. } => true,
+        Op::DropTable { .. }
+        | Op::RenameTable { .. }
         | Op::CreateConstraint { .. }
         | Op::DropConstraint { .. } => false,
     }
@@ -163,7 +164,47 @@ fn begun_tables(
     Ok(begun)
 }
 
-// ---- their weight
+// ---- the tables that are created
+
+// The number of a table that the migration creates.
+fn created_number(number: u32, fate: &Fate) -> Option<u32>
+    ensures { result ≡ created_number number fate.now }
+{
+    match fate {
+        Fate::Created => Some(number),
+        Fate::Kept(_) | Fate::Dropped => None,
+    }
+}
+
+/// The numbers of the tables that a plan creates, by its fates, in the order of their creation.
+pub fn created_in(alloc: Global, fates: &[(u32, Fate)]) -> Result<List<u32>, NoMemory>
+    ensures { IfOk result (λ numbers. numbers ≡ created_in fates.now) }
+{
+    let mut numbers = List::new(alloc);
+    for fate in fates {
+        if let Some(number) = created_number(fate.0, &fate.1) {
+            numbers.push(number)?;
+        }
+    }
+    Ok(numbers)
+}
+
+// Tables with one more for each of these numbers, which has no row.
+fn with_empty(
+    alloc: Global,
+    tables: List<(u32, List<Kept>)>,
+    numbers: &[u32],
+) -> Result<List<(u32, List<Kept>)>, NoMemory>
+    ensures { IfOk result (λ more. more ≡ tables ++ map (λ number. (number, [])) numbers.now) }
+{
+    let mut more = tables;
+    for number in numbers {
+        more.push((*number, List::new(alloc)))?;
+    }
+    Ok(more)
+}
+
+// ---- the weight of the rows
 
 fn has_heavy(
     alloc: Global,
@@ -193,9 +234,12 @@ fn too_heavy(alloc: Global, s: &State, plan: &Plan) -> Result<Option<Refusal>, N
 // ---- the start
 
 fn started_state(alloc: Global, s: &State, name: &Name, plan: Plan) -> Result<State, NoMemory>
+    requires { s.now.next_table + length (created_in plan.fates) < 2 ^ 32 }
     ensures { IfOk result (λ t. t ≡ spec.started s.now name.now plan) }
 {
-    let tables = begun_tables(alloc, plan.fates.as_slice(), s.tables.as_slice())?;
+    let created = created_in(alloc, plan.fates.as_slice())?;
+    let begun = begun_tables(alloc, plan.fates.as_slice(), s.tables.as_slice())?;
+    let tables = with_empty(alloc, begun, created.as_slice())?;
     Ok(State {
         version: s.version.copy(alloc)?,
         schema: s.schema.copy(alloc)?,
@@ -206,7 +250,7 @@ fn started_state(alloc: Global, s: &State, name: &Name, plan: Plan) -> Result<St
         },
         left: s.left,
         kind: s.kind,
-        next_table: s.next_table,
+        next_table: s.next_table + created.len() as u32,
         tables,
         lost_columns: s.lost_columns.copy(alloc)?,
     })
@@ -218,6 +262,7 @@ fn start_planned(
     m: &Migration,
     plan: Plan,
 ) -> Result<(Reply, State), Stop<Refusal>>
+    requires { s.now.next_table + length (created_in plan.fates) < 2 ^ 32 }
     ensures { Answers (replied (spec.start_planned s.now m.now plan)) result }
 {
     if let Some(refusal) = too_heavy(alloc, s, &plan)? {
@@ -236,6 +281,9 @@ fn start_read(alloc: Global, s: &State, m: &Migration) -> Result<(Reply, State),
         return Err(Stop::Because(refusal));
     }
     let plan = planned(alloc, s, m)?;
+    // The number of the next table has 32 bits, and so it has after the plan.
+    let _next_table = s.next_table;
+    created_tables_are_numbered();
     start_planned(alloc, s, m, plan)
 }
 

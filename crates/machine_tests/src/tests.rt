@@ -3,11 +3,11 @@ mod scripts;
 
 use machine::{Asked, Event, Reading, Reply, State, beginning, step};
 use mig_json::{JsonFault, read_migration};
-use mig_lens::{ColumnDef, Migration, Op, Refusal};
-use replies::reply_text;
+use mig_lens::Refusal;
+use replies::{lost_text, reply_text};
 use scripts::{Line, SCRIPTS, line_of};
-use sql_base::{Copying, Expr, List, Name, NoMemory, Stmt, Ty, Value};
-use sql_parse::{ParseFault, parse_expr, parse_stmt};
+use sql_base::{Copying, List, Name, NoMemory, Stmt};
+use sql_parse::{ParseFault, parse_stmt};
 use std::alloc::Global;
 use std::test::Fail;
 
@@ -43,39 +43,6 @@ fn asked(alloc: Global, text: &str) -> Result<Asked, NoMemory> {
     }
 }
 
-// A migration that adds to users the column age, which takes no NULL.
-fn adds_age(alloc: Global, default: Value, up: Option<Expr>) -> Result<Asked, NoMemory> {
-    let column = ColumnDef {
-        name: name(alloc, "age")?,
-        ty: Ty::Bigint,
-        nullable: false,
-        pk: false,
-        unique: false,
-        default,
-        check: None,
-    };
-    let mut operations = List::new(alloc);
-    operations.push(Op::AddColumn {
-        table: name(alloc, "users")?,
-        column,
-        up,
-    })?;
-    Ok(Asked::Read(Migration {
-        name: name(alloc, "02_age")?,
-        operations,
-    }))
-}
-
-fn made_age(alloc: Global, up: &str) -> Result<Asked, NoMemory> {
-    if up.len() > MAX_LINE {
-        return Err(NoMemory);
-    }
-    match parse_expr(alloc, up.as_bytes()) {
-        Ok(up) => adds_age(alloc, Value::Null, Some(up)),
-        Err(_) => Err(NoMemory),
-    }
-}
-
 // The most bytes of a line.
 const MAX_LINE: usize = 4096;
 
@@ -98,15 +65,16 @@ fn said(alloc: Global, path: &List<Name>, line: &str) -> Result<Event, NoMemory>
     Ok(Event::Said(path.copy(alloc)?, reading))
 }
 
-fn event_of(alloc: Global, path: &List<Name>, line: &str) -> Result<Event, NoMemory> {
-    match line_of(line) {
-        Line::Start(text) => Ok(Event::Start(asked(alloc, text)?)),
-        Line::Default(n) => Ok(Event::Start(adds_age(alloc, Value::Int(n), None)?)),
-        Line::Made(up) => Ok(Event::Start(made_age(alloc, up)?)),
-        Line::Batch(count) => Ok(Event::Fill(count)),
-        Line::Complete => Ok(Event::Complete),
-        Line::Said(text) => said(alloc, path, text),
-    }
+// What a line asks for, or nothing where it only looks at the state.
+fn event_of(alloc: Global, path: &List<Name>, line: &str) -> Result<Option<Event>, NoMemory> {
+    let event = match line_of(line) {
+        Line::Start(text) => Event::Start(asked(alloc, text)?),
+        Line::Batch(count) => Event::Fill(count),
+        Line::Complete => Event::Complete,
+        Line::Lost => return Ok(None),
+        Line::Said(text) => said(alloc, path, text)?,
+    };
+    Ok(Some(event))
 }
 
 fn path_after(alloc: Global, event: &Event, path: List<Name>) -> Result<List<Name>, NoMemory> {
@@ -116,16 +84,31 @@ fn path_after(alloc: Global, event: &Event, path: List<Name>) -> Result<List<Nam
     }
 }
 
-fn taken(alloc: Global, lane: Lane, line: &str) -> Result<Lane, NoMemory> {
-    let event = event_of(alloc, &lane.path, line)?;
-    let (state, reply) = step(alloc, &lane.state, &event)?;
+fn after_event(alloc: Global, lane: Lane, event: &Event) -> Result<Lane, NoMemory> {
+    let (state, reply) = step(alloc, &lane.state, event)?;
     let mut told = lane.told;
     told.extend_from_slice(reply_text(alloc, &reply)?.as_slice())?;
     Ok(Lane {
         state,
-        path: path_after(alloc, &event, lane.path)?,
+        path: path_after(alloc, event, lane.path)?,
         told,
     })
+}
+
+fn taken(alloc: Global, lane: Lane, line: &str) -> Result<Lane, NoMemory> {
+    match event_of(alloc, &lane.path, line)? {
+        Some(event) => after_event(alloc, lane, &event),
+        None => {
+            let lost = lost_text(alloc, &lane.state)?;
+            let mut told = lane.told;
+            told.extend_from_slice(lost.as_slice())?;
+            Ok(Lane {
+                state: lane.state,
+                path: lane.path,
+                told,
+            })
+        }
+    }
 }
 
 fn run(alloc: Global, script: &str) -> Result<Vec<u8>, NoMemory> {

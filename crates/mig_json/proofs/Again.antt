@@ -1,5 +1,5 @@
 -- A value that was read is read again of the JSON value that it is written as.
-use Rattle.std.proofs.Common.{◌≡◌, ℕ, suc, ◌<◌, ◌≤◌, List, [], ◌∷◌, ◌++◌, map, length, Bool, true, false, ◌&&◌, ◌||◌, not, cond, Option, Some, None, option_map, Ordering, Less, Equal, Greater, nat_cmp, refl, sym, ap, ap₂, ◌∙◌, subst, arith, IsUtf8, true≢false, fold}
+use Rattle.std.proofs.Common.{◌≡◌, ℕ, ◌≤◌, List, [], ◌∷◌, ◌++◌, map, length, Bool, true, false, ◌&&◌, ◌||◌, not, Option, Some, None, option_map, Ordering, Less, Equal, Greater, nat_cmp, refl, sym, ap, ◌∙◌, subst, arith, fold}
 use Rattle.std.proofs.lemmas.Bool.{and_parts}
 use Rattle.std.proofs.lemmas.Cmp.{nat_list_cmp_total}
 use Rattle.std.proofs.lemmas.Slice.Eq.{bytes_eq-Decides}
@@ -12,15 +12,13 @@ use Rattle.std.specs.Str.Lossy.{utf8_lossy}
 use Rattle.serde_json.proofs.Views.{get_member-put, get_member-put_other}
 use Rattle.serde_json.specs.Data.{Data, object, Items, no_items, item, Members, no_members, member, put}
 use Rattle.serde_json.specs.Data as json
-use Rattle.serde_json.specs.Find.{get, get_member, as_object}
+use Rattle.serde_json.specs.Find.{get_member}
 use Rattle.serde_json.specs.View.{items_of}
 use Rattle.serde_json.specs.Written.{compact_text, items_text, members_text}
 use Rattle.sql_base.specs.declared.exprs.Expr.{Expr}
 use Rattle.sql_base.specs.declared.exprs.Expr.TheVariants.{Lit}
 use Rattle.sql_base.specs.declared.values.Ty.{Ty}
 use Rattle.sql_base.specs.declared.values.Ty.TheVariants as ty
-use Rattle.sql_base.specs.Tree.{depth}
-use Rattle.sql_text.specs.Laws.{HasText}
 use Rattle.sql_text.specs.Printing.{spelled, type_name}
 use Rattle.sql_parse.specs.Laws.{ReadBack}
 use Rattle.mig_lens.specs.declared.migrations.Ways.{Ways}
@@ -28,8 +26,8 @@ use Rattle.mig_lens.specs.declared.migrations.Ways.TheVariants.{One, Each}
 use Rattle.mig_json.specs.Demand.{IsExpression, max_expression}
 use Rattle.mig_json.specs.Kind as kind
 use Rattle.mig_json.specs.Kind.{Kind, Fields, keys, ValueOf, ValuesOf, Is, Are, Has, May, IsTextOf, AreItems, ArePairs, AreEach, IsWays, type_of, is_filled}
-use Rattle.mig_json.specs.Member.{is_member, are_known, keys_of}
-use Rattle.mig_json.specs.Writing.{text_data, expression_data, put_if, with_pair, pairs_data, ways_data, data_of, members_with}
+use Rattle.mig_json.specs.Member.{is_member, keys_of}
+use Rattle.mig_json.specs.Writing.{expression_data, put_if, with_pair, pairs_data, ways_data, data_of, members_with}
 use Rattle.mig_json.proofs.Fitting.{Fits, AllFit, IsSpelled, IsFilled, PairsFit, ComesFirst, WaysFit, part_text}
 use Rattle.mig_json.proofs.Lengths.{quoted_longer, found_shorter, first_shorter, rest_shorter, item_shorter, items_shorter}
 use Rattle.mig_json.proofs.Spelled.{spelled_utf8}
@@ -260,9 +258,12 @@ module _ (read_back : ReadBack) where
         let different = and_parts (are_different (keys fields)) _ sound in
         let members = and_parts (list_all (is_member (keys fields)) (keys fields)) _ different.1 in
         (known (is_member (keys fields)) fields xs no_members members.0 refl, fields_again fields xs no_members different.0 members.1 (nothing (keys fields)) fit short)
-    again (kind.many kind) xs sound fit short =
-        (items_of (map (λ x. data_of kind x) xs), refl, filled_again (λ x. data_of kind x) xs fit.0,
-        items_again (λ x. data_of kind x) (λ d x. Is kind d x) (λ x. Fits kind x) [] false xs (λ x one brief. again kind x sound one brief) fit.1 (omega (arith, short)))
+    again (kind.many kind) xs sound fit short = (
+      items_of (map (λ x. data_of kind x) xs),
+      refl,
+      filled_again (λ x. data_of kind x) xs fit.0,
+      items_again (λ x. data_of kind x) (λ d x. Is kind d x) (λ x. Fits kind x) [] false xs (λ x one brief. again kind x sound one brief) fit.1 (omega (arith, short)),
+    )
     again kind.names xs sound fit short = fit
     again (kind.each place) xs sound fit short = pairs_again xs fit short
     again (kind.ways place) x sound fit short = ways_again x fit short
@@ -277,9 +278,10 @@ module _ (read_back : ReadBack) where
         let both = and_parts (is_sound kind) _ sound in
         let whole = members_with fields xs.1 (put key d ms) in
         let found : get_member key whole ≡ Some d = kept key fields xs.1 (put key d ms) other ∙ get_member-put key d ms in
-        let brief : IsShort d = omega (arith, found_shorter key whole d found, short) in
-        (subst (λ o. Has (λ e x. Is kind e x) o xs.0) (sym found) (again kind xs.0 both.0 fit.0 brief),
-        fields_again fields xs.1 (put key d ms) apart.1 both.1 (absent_put key d ms (keys fields) other absent.1) fit.1 short)
+        let brief : IsShort d = omega (arith, found_shorter key whole d found, short) in (
+          subst (λ o. Has (λ e x. Is kind e x) o xs.0) (sym found) (again kind xs.0 both.0 fit.0 brief),
+          fields_again fields xs.1 (put key d ms) apart.1 both.1 (absent_put key d ms (keys fields) other absent.1) fit.1 short,
+        )
     fields_again (kind.may key kind fields) xs ms different sound absent fit short =
         let o = option_map (λ x. data_of kind x) xs.0 in
         let apart = and_parts (not (is_member (keys fields) key)) _ different in
@@ -287,9 +289,10 @@ module _ (read_back : ReadBack) where
         let both = and_parts (is_sound kind) _ sound in
         let whole = members_with fields xs.1 (put_if key o ms) in
         let found : get_member key whole ≡ o = kept key fields xs.1 (put_if key o ms) other ∙ found_put_if key o ms absent.0 in
-        let brief : (d : Data) → o ≡ Some d → IsShort d = λ d is. omega (arith, found_shorter key whole d (found ∙ is), short) in
-        (subst (λ o. May (λ e x. Is kind e x) o xs.0) (sym found) (may_again (λ x. data_of kind x) (λ e x. Is kind e x) (λ x. Fits kind x) xs.0 (λ x one brief. again kind x both.0 one brief) fit.0 brief),
-        fields_again fields xs.1 (put_if key o ms) apart.1 both.1 (absent_put_if key o ms (keys fields) other absent.1) fit.1 short)
+        let brief : (d : Data) → o ≡ Some d → IsShort d = λ d is. omega (arith, found_shorter key whole d (found ∙ is), short) in (
+          subst (λ o. May (λ e x. Is kind e x) o xs.0) (sym found) (may_again (λ x. data_of kind x) (λ e x. Is kind e x) (λ x. Fits kind x) xs.0 (λ x one brief. again kind x both.0 one brief) fit.0 brief),
+          fields_again fields xs.1 (put_if key o ms) apart.1 both.1 (absent_put_if key o ms (keys fields) other absent.1) fit.1 short,
+        )
     fields_again (kind.never key fields) xs ms different sound absent fit short =
         let apart = and_parts (not (is_member (keys fields) key)) _ different in
         let other : is_member (keys fields) key ≡ true → ⊥ = not_true _ apart.0 in

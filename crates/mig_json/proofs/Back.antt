@@ -1,9 +1,9 @@
 -- The canonical text of a migration that was read is read as that migration.
-use Rattle.std.proofs.Common.{◌≡◌, ℕ, suc, ◌<◌, ◌≤◌, List, [], ◌∷◌, ◌++◌, map, length, codes, Bool, true, false, not, ◌&&◌, Option, Some, None, option_map, unwrap_or, if◌then◌else◌, refl, sym, ap, ap₂, ◌∙◌, subst, arith}
+use Rattle.std.proofs.Common.{◌≡◌, ℕ, ◌≤◌, List, [], ◌∷◌, ◌++◌, map, length, codes, Bool, true, false, Option, Some, None, option_map, unwrap_or, if◌then◌else◌, refl, sym, ap, ap₂, subst, arith}
 use Rattle.std.specs.List.{AllByRecursion}
 use Rattle.std.specs.Prelude.{IfSome}
 use Rattle.std.specs.Str.{IsUtf8}
-use Rattle.serde_json.specs.Data.{Data, null, boolean, number, object, array, string, Items, no_items, item, Members, no_members, member, put}
+use Rattle.serde_json.specs.Data.{Data, null, boolean, number, object, array, string, Items, no_items, item, no_members, member, put}
 use Rattle.serde_json.specs.Find.{get, get_member}
 use Rattle.serde_json.specs.Read.{read}
 use Rattle.serde_json.specs.View.{items_of}
@@ -23,13 +23,13 @@ use Rattle.mig_json.specs.declared.members.Operation.TheVariants as operation
 use Rattle.mig_json.specs.Demand.{max_expression}
 use Rattle.mig_json.specs.Kind as kind
 use Rattle.mig_json.specs.Kind.{ValueOf, ValuesOf, Is, Has, AreItems, needs, is_word}
-use Rattle.mig_json.specs.Migration.{IsOperation, IsMigration, IsReading, Makes}
+use Rattle.mig_json.specs.Migration.{IsOperation, IsMigration, IsReading}
 use Rattle.mig_json.specs.Name.{is_name}
 use Rattle.mig_json.specs.Reading.{Asked, asked, max_text}
 use Rattle.mig_json.specs.Table.{check, check_of, named, column, column_of, form, operation_of}
-use Rattle.mig_json.specs.Writing.{data_of, members_with, array_of, text_data, unless_false, unless_null, unless_empty, check_values, column_values, altered_values, title, titled, constraint_data, operation_data, json_of, canonical_text}
+use Rattle.mig_json.specs.Writing.{data_of, text_data, unless_false, unless_null, unless_empty, check_values, column_values, altered_values, title, titled, operation_data, json_of, canonical_text}
 use Rattle.mig_json.proofs.Again.{again, is_sound}
-use Rattle.mig_json.proofs.Fitting.{Fits, AllFit, IsSpelled, IsFilled, PairsFit, fits, name_text}
+use Rattle.mig_json.proofs.Fitting.{AllFit, IsSpelled, IsFilled, PairsFit, fits, name_text}
 use Rattle.mig_json.proofs.Lengths.{first_shorter, found_shorter, item_shorter, items_shorter}
 use Rattle.mig_json.proofs.Ordered.{IsOrdered, AreOrdered, found_ordered, read_ordered}
 use Rattle.mig_json.proofs.Texts.{json_in-Some}
@@ -58,9 +58,22 @@ pairs_fit (Some (x ∷ xs)) h = h
 
 column_fits : (xs : ValuesOf column) → AllFit column xs → AllFit column (column_values (column_of xs))
 column_fits xs (title_fits, (typed, (nullable, (pk, (unique, (default, (condition, last))))))) =
-    let ys = xs.1.1 in
-    (title_fits, (typed, (flag_fits (unwrap_or ys.0 false), (flag_fits (unwrap_or ys.1.0 false), (flag_fits (unwrap_or ys.1.1.0 false),
-    (default_fits (λ v. IsSpelled (Lit v)) ys.1.1.1.0 default, (check_fits ys.1.1.1.1.0 condition, tt)))))))
+    let ys = xs.1.1 in (
+      title_fits,
+      (
+        typed,
+        (
+          flag_fits (unwrap_or ys.0 false),
+          (
+            flag_fits (unwrap_or ys.1.0 false),
+            (
+              flag_fits (unwrap_or ys.1.1.0 false),
+              (default_fits (λ v. IsSpelled (Lit v)) ys.1.1.1.0 default, (check_fits ys.1.1.1.1.0 condition, tt)),
+            ),
+          ),
+        ),
+      ),
+    )
 
 columns_fit : (xss : List (ValuesOf column)) → AllByRecursion (λ xs. AllFit column xs) xss → AllByRecursion (λ xs. AllFit column xs) (map column_values (map column_of xss))
 columns_fit [] h = tt

@@ -1,5 +1,5 @@
 -- What is known of the values that a text is read as.
-use Rattle.std.proofs.Common.{◌≡◌, ℕ, ◌<◌, ◌≤◌, List, [], ◌∷◌, ◌++◌, map, length, Bool, true, false, ◌&&◌, ◌||◌, not, Option, Some, None, Ordering, Less, nat_cmp, refl, sym, ap, ap₂, ◌∙◌, subst, arith, IsUtf8}
+use Rattle.std.proofs.Common.{◌≡◌, ℕ, ◌<◌, ◌≤◌, List, [], ◌∷◌, ◌++◌, map, true, Option, Some, None, Less, nat_cmp, refl, sym, ap, ap₂, ◌∙◌, subst, arith}
 use Rattle.std.proofs.lemmas.Bool.{and_parts}
 use Rattle.std.proofs.lemmas.Str.{utf8_lossy-IsUtf8}
 use Rattle.std.specs.Cmp.Lexicographic.{slice_cmp}
@@ -20,7 +20,7 @@ use Rattle.mig_lens.specs.declared.migrations.Ways.TheVariants.{One, Each}
 use Rattle.mig_json.specs.Demand.{IsExpression}
 use Rattle.mig_json.specs.Kind as kind
 use Rattle.mig_json.specs.Kind.{Kind, Fields, ValueOf, ValuesOf, Is, Are, Has, May, IsTextOf, AreItems, ArePairs, AreEach, IsWays, IsNewName, is_filled}
-use Rattle.mig_json.specs.Name.{is_name, is_part_name, is_name_byte, is_digit}
+use Rattle.mig_json.specs.Name.{is_name, is_part_name, is_name_byte}
 use Rattle.mig_json.specs.Writing.{data_of, text_data}
 use Rattle.mig_json.proofs.Ordered.{IsBefore, IsOrdered, AreOrdered, InOrder, found_ordered}
 use Rattle.mig_json.proofs.Spelled.{ascii_by}

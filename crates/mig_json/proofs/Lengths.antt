@@ -1,10 +1,9 @@
 -- A part of a value has no longer text than the value.
-use Rattle.std.proofs.Common.{◌≡◌, ℕ, suc, ◌+◌, ◌<◌, ◌≤◌, List, [], ◌∷◌, ◌++◌, length, Bool, true, false, cond, nat_lt, Option, Some, None, Ordering, Less, Equal, Greater, nat_cmp, refl, sym, ap, ◌∙◌, subst, arith, length-append}
+use Rattle.std.proofs.Common.{◌≡◌, ℕ, ◌≤◌, List, [], ◌∷◌, ◌++◌, length, Bool, true, false, cond, nat_lt, Some, Ordering, Less, Equal, Greater, nat_cmp, subst, arith, length-append}
 use Rattle.std.specs.Cmp.Lexicographic.{slice_cmp}
-use Rattle.std.specs.List.{flat_map}
 use Rattle.std.specs.Ordering.{match_ordering}
 use Rattle.json.specs.Print.{escape_letter, escape_byte, escape, quoted}
-use Rattle.serde_json.specs.Data.{Data, object, Items, no_items, item, Members, no_members, member}
+use Rattle.serde_json.specs.Data.{Data, object, Items, item, Members, no_members, member}
 use Rattle.serde_json.specs.Find.{get_member}
 use Rattle.serde_json.specs.Written.{compact_text, items_text, members_text, comma_if}
 

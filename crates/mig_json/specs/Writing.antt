@@ -101,27 +101,55 @@ check_values it = (it.name, (it.expr, tt))
 abbrev pub column_values : ColumnDef → ValuesOf column
 column_values it = (
   it.name,
-  (it.ty,
-  (unless_false it.nullable,
-  (unless_false it.pk,
-  (unless_false it.unique,
-  (unless_null it.default,
-  (option_map check_values it.check,
-  tt)))))),
+  (
+    it.ty,
+    (
+      unless_false it.nullable,
+      (
+        unless_false it.pk,
+        (
+          unless_false it.unique,
+          (
+            unless_null it.default,
+            (
+              option_map check_values it.check,
+              tt,
+            ),
+          ),
+        ),
+      ),
+    ),
+  ),
 )
 
 abbrev pub altered_values : List ℕ → List ℕ → Option Ty → Option Bool → Option Value → Option (List ℕ) → Option Check → Option Expr → Option Expr → ValuesOf alter_column.fields
 altered_values table altered ty nullable default unique condition up down = (
   table,
-  (altered,
-  (ty,
-  (nullable,
-  (default,
-  (option_map (λ u. (u, tt)) unique,
-  (option_map check_values condition,
-  (up,
-  (down,
-  tt)))))))),
+  (
+    altered,
+    (
+      ty,
+      (
+        nullable,
+        (
+          default,
+          (
+            option_map (λ u. (u, tt)) unique,
+            (
+              option_map check_values condition,
+              (
+                up,
+                (
+                  down,
+                  tt,
+                ),
+              ),
+            ),
+          ),
+        ),
+      ),
+    ),
+  ),
 )
 
 -- ---- operations

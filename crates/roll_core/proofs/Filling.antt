@@ -10,8 +10,8 @@ use Rattle.roll_core.proofs.Rows.{Stores}
 use Rattle.roll_core.proofs.Fitting.{Weighs, older_weigh}
 use Rattle.roll_core.proofs.Jobs.{job_stores, stored_agree, stored_sites, leaves, placed_weigh}
 use Rattle.roll_core.proofs.Outcomes.{err_by, map_fault_ok, ok_by, without_ok}
-use Rattle.roll_core.proofs.Missing.{each_left, each_taken, first_rows}
-use Rattle.roll_core.proofs.Tables.{IsRead, all_at, got_mapped, rows_of-read, suits_meant}
+use Rattle.roll_core.proofs.Missing.{each_taken, first_rows}
+use Rattle.roll_core.proofs.Tables.{IsRead, all_at, each_passing, got_mapped, rows_of-read, suits_meant}
 
 -- ---- how it is refused, and how not
 
@@ -74,7 +74,7 @@ stores law frame tables at n f runs all e =
     let stored = all_at RowsStored (map seen tables) at (seen f.table) runs.rows got in
     let read = rows_of-read law frame (map seen tables) at f.table.number (seen f.table) runs.stands (record { here = got; numbered = refl }) in
     let is = ap (rows_of s) there.0 ∙ read in
-    let some : (P : Kept → Type 0) → Each P (map (kept form) rows) → Each P (take n (filter is_missing (map (kept form) rows))) = λ P h. each_taken P n (filter is_missing (map (kept form) rows)) (each_left P is_missing (map (kept form) rows) h) in
+    let some : (P : Kept → Type 0) → Each P (map (kept form) rows) → Each P (take n (filter is_missing (map (kept form) rows))) = λ P h. each_taken P n (filter is_missing (map (kept form) rows)) (each_passing is_missing (λ row p _. p) (map (kept form) rows) h) in
     job_stores law s found runs.stands there.1 form f.table.rows.rows suits job.Fill refl tt (take n (filter is_missing (map (kept form) rows)))
     (some (SiteRow (λ lost. Unit {0}) (site_of s found)) (stored_sites law.rows law.on_site s found runs.stands there.1 (map (kept form) rows) is))
     (λ both h. some (λ row. HalvesAgree both.lens row.halves) (stored_agree law.long s (number_of f.both.new) form suits rows both h))

@@ -1,13 +1,13 @@
 -- The rows that a job puts can be stored in the form of their table.
-use Rattle.roll_core.proofs.Words.{◌≡◌, ◌∙◌, ℕ, ℤ, List, [], ◌∷◌, Bool, true, false, Option, Some, None, is_some, cond, int_cmp, map, ap, refl, sym, subst, option_map, option_and_then, T}
-use Rattle.roll_core.proofs.Words.{int_eq_equiv, is_sorted, below_all, Each, eq_by_cmp, is_eq, is_lt, some_same, Value, Table, table_numbered, Halves, Kept, Beside, number_of, shape_of, Rows, Calm}
+use Rattle.roll_core.proofs.Words.{◌≡◌, ◌∙◌, ℕ, ℤ, List, [], ◌∷◌, Bool, true, false, Option, Some, None, is_some, cond, int_cmp, map, ap, refl, sym, subst, option_map, T}
+use Rattle.roll_core.proofs.Words.{int_eq_equiv, is_sorted, below_all, Each, eq_by_cmp, is_eq, is_lt, some_same, Value, Table, Halves, Kept, Beside, number_of, shape_of, Rows}
 use Rattle.roll_core.proofs.Words.{State, HalvesAgree, PairStands, SiteRow, TableStands, may_miss_beside, new_table_by, table_by, HalfStands, NewStands, Found, Shared, beside_on, lens_between}
-use Rattle.roll_core.proofs.Words.{newer_schema, shared, site_of, table_on, New, Old, Side, FilledBefore, Pair, Form, Own, Paired, Left, Trimmed, FormSuits, LeftBy, IsStoredRow, StoredRow, kept}
-use Rattle.roll_core.proofs.Words.{lost_columns_by, pair_over}
+use Rattle.roll_core.proofs.Words.{shared, site_of, table_on, New, Old, Side, FilledBefore, Pair, Form, Own, Paired, Left, Trimmed, FormSuits, LeftBy, IsStoredRow, StoredRow, kept}
+use Rattle.roll_core.proofs.Words.{lost_columns_by, other, pair_over, row_fits}
 use Rattle.roll_core.proofs.Words.finite
 use Rattle.std.specs.FinMap.{find}
 use Rattle.roll_core.proofs.Made.{HasNew}
-use Rattle.roll_core.proofs.Runs.{no_lens, shared_of}
+use Rattle.roll_core.proofs.Runs.{calm_none, no_new, shared_of}
 use Rattle.roll_core.proofs.Stepped.{is_less, split}
 use Rattle.roll_core.proofs.Storing.{AloneFits, FormStands, Storable, Together, lost_over}
 
@@ -29,7 +29,7 @@ sorted_found (row ∷ rows) s =
 -- ---- lost weights
 
 abbrev pub WeighsOver : Form → Option (List Value) → ℕ → Type 0
-WeighsOver Own before lost = lost ≡ 0
+WeighsOver (Own side) before lost = lost ≡ 0
 WeighsOver (Paired pair) before lost = lost ≡ 0
 WeighsOver (Left pair) before lost = FilledBefore pair before × (lost ≡ lost_over pair before)
 WeighsOver (Trimmed pair) before lost = lost ≡ 0
@@ -39,13 +39,13 @@ abbrev pub Weighs : Form → Rows → ℤ → ℕ → Type 0
 Weighs form rows key lost = WeighsOver form (finite.get rows key) lost
 
 pub new_weighs : (form : Form) (lost : ℕ) → lost ≡ lost_columns_by form → WeighsOver form None lost
-new_weighs Own lost e = e
+new_weighs (Own side) lost e = e
 new_weighs (Paired pair) lost e = e
 new_weighs (Left pair) lost e = (tt, e)
 new_weighs (Trimmed pair) lost e = e
 
 row_weighs : (form : Form) (before : Option (List Value)) (row : StoredRow) → before ≡ Some row.1 → IsStoredRow form row.1 → WeighsOver form before (kept form row).lost
-row_weighs Own before row e s = refl
+row_weighs (Own side) before row e s = refl
 row_weighs (Paired pair) before row e s = refl
 row_weighs (Left pair) before row e s = (subst (FilledBefore pair) (sym e) s, ap (lost_over pair) (sym e))
 row_weighs (Trimmed pair) before row e s = refl
@@ -63,32 +63,47 @@ older_weigh form rows s = rows_weigh form rows (finite.entries rows) (sorted_fou
 halves_are : (halves : Halves) (old new : Option (List Value)) → halves.old ≡ old → halves.new ≡ new → halves ≡ record { old = old; new = new }
 halves_are halves old new o n = λ i. record { old = o i; new = n i }
 
-alone_has : (here : Table) (row : Kept) → HalfStands (Some here) row.key row.halves.old → HalfStands None row.key row.halves.new → AloneFits (shape_of here) row
-alone_has here row o n =
-    elim row.halves.old as (λ old. row.halves.old ≡ old → HalfStands (Some here) row.key old → AloneFits (shape_of here) row) [
-      | None ↦ λ e h. absurd h
-      | Some values ↦ λ e h. record { values = values; halves = halves_are row.halves (Some values) None e (elim row.halves.new as (λ new. HalfStands None row.key new → new ≡ None) [ None ↦ λ h. refl | Some values ↦ λ h. absurd h ] n); fits = h.0 }
-    ] refl o
+no_half : (key : ℤ) (half : Option (List Value)) → HalfStands None key half → half ≡ None
+no_half key None h = refl
+no_half key (Some values) h = absurd h
 
-alone_site : (side : Side) (here : Table) (there : Option Beside) (row : Kept) → side ≡ Old → there ≡ None → HalfStands (table_by side here there) row.key row.halves.old → NewStands (may_miss_beside there) (new_table_by side here there) row.key row.halves.new → AloneFits (shape_of here) row
-alone_site Old here None row s t o n = alone_has here row o n
-alone_site Old here (Some beside) row s t o n = cc
-alone_site New here there row s t o n = cc
+-- A half that stands.
+record FittingHalf (here : Table) (half : Option (List Value)) : Type 0 where
+  values : List Value
+  is : half ≡ Some values
+  fits : row_fits (shape_of here) values ≡ true
 
--- ---- while one version stands
+fitting_half : (here : Table) (key : ℤ) (half : Option (List Value)) → HalfStands (Some here) key half → FittingHalf here half
+fitting_half here key None h = absurd h
+fitting_half here key (Some values) h = record { values = values; is = refl; fits = h.0 }
 
-calm_side : (s : State) → s.mode ≡ Calm → (side : Side) (number : ℕ) (table : Table) → table_on s side number ≡ Some table → side ≡ Old
-calm_side s m Old number table e = refl
-calm_side s m New number table e = let none : table_on s New number ≡ None = ap (λ mode. option_and_then (λ schema. table_numbered schema number) (newer_schema mode)) m in cc
+alone_has : (side : Side) (here : Table) (there : Option Beside) (row : Kept) → there ≡ None → HalfStands (table_by side here there) row.key row.halves.old → NewStands (may_miss_beside there) (new_table_by side here there) row.key row.halves.new → AloneFits side (shape_of here) row
+alone_has Old here None row t o n =
+    let has = fitting_half here row.key row.halves.old o in
+    record { values = has.values; halves = halves_are row.halves (Some has.values) None has.is (no_half row.key row.halves.new n); fits = has.fits }
+alone_has New here None row t o n =
+    let has = fitting_half here row.key row.halves.new n in
+    record { values = has.values; halves = halves_are row.halves None (Some has.values) (no_half row.key row.halves.old o) has.is; fits = has.fits }
+alone_has side here (Some beside) row t o n = cc
 
-pub calm_shared : (s : State) (number : ℕ) → s.mode ≡ Calm → shared s number ≡ None
-calm_shared s number m = ap (λ mode. shared_of (lens_between mode number) (option_and_then (λ schema. table_numbered schema number) (newer_schema mode)) (table_on s Old number)) m ∙ no_lens None (table_on s Old number)
+-- ---- a table that one version has alone
 
-calm_has : (s : State) (found : Found) → s.mode ≡ Calm → TableStands s found → (row : Kept) → SiteRow (λ lost. Unit {0}) (site_of s found) row → AloneFits (shape_of found.table) row
-calm_has s found m stands row r =
+-- It is found on that version's side.
+alone_side : (s : State) (number : ℕ) (own side : Side) (table : Table) → table_on s (other own) number ≡ None → table_on s side number ≡ Some table → side ≡ own
+alone_side s number Old Old table none e = refl
+alone_side s number Old New table none e = cc
+alone_side s number New Old table none e = cc
+alone_side s number New New table none e = refl
+
+pub alone_shared : (s : State) (number : ℕ) (own : Side) → table_on s (other own) number ≡ None → shared s number ≡ None
+alone_shared s number Old none = ap (λ new. shared_of (lens_between s.mode number) new (table_on s Old number)) none ∙ no_new (lens_between s.mode number) (table_on s Old number)
+alone_shared s number New none = ap (shared_of (lens_between s.mode number) (table_on s New number)) none
+
+alone_fits : (s : State) (found : Found) (own : Side) → table_on s (other own) (number_of found.table) ≡ None → TableStands s found → (row : Kept) → SiteRow (λ lost. Unit {0}) (site_of s found) row → AloneFits own (shape_of found.table) row
+alone_fits s found own none stands row r =
     let number = number_of found.table in
-    let none = ap (option_map (beside_on found.side)) (calm_shared s number m) in
-    alone_site found.side found.table (site_of s found).there row (calm_side s m found.side number found.table stands.on_side) none r.old r.new
+    let there = ap (option_map (beside_on found.side)) (alone_shared s number own none) in
+    subst (λ side. AloneFits side (shape_of found.table) row) (alone_side s number own found.side found.table none stands.on_side) (alone_has found.side found.table (site_of s found).there row there r.old r.new)
 
 -- ---- while both do
 
@@ -136,19 +151,21 @@ new_there None beside halves e h = cc
 new_there (Some b) beside halves e h = h
 
 pub form_stands : (s : State) (number : ℕ) (form : Form) → FormSuits s number form → FormStands form
-form_stands s number Own f = tt
+form_stands s number (Own side) f = tt
 form_stands s number (Paired pair) f = f.is_pair
 form_stands s number (Left pair) f = f.is_pair
 form_stands s number (Trimmed pair) f = f.is_pair
 
-left_fits : (s : State) (found : Found) (pair : Pair) → LeftBy s (number_of found.table) pair → TableStands s found → (row : Kept) → SiteRow (λ lost. Unit {0}) (site_of s found) row → AloneFits pair.new row
+left_fits : (s : State) (found : Found) (pair : Pair) → LeftBy s (number_of found.table) pair → TableStands s found → (row : Kept) → SiteRow (λ lost. Unit {0}) (site_of s found) row → AloneFits Old pair.new row
 left_fits s found pair f stands row r =
-    let old = subst (λ side. table_on s side (number_of found.table) ≡ Some found.table) (calm_side s f.calm found.side (number_of found.table) found.table stands.on_side) stands.on_side in
-    subst (λ shape. AloneFits shape row) (sym (f.shape found.table old)) (calm_has s found f.calm stands row r)
+    let number = number_of found.table in
+    let none = calm_none s number f.calm in
+    let old = subst (λ side. table_on s side number ≡ Some found.table) (alone_side s number Old found.side found.table none stands.on_side) stands.on_side in
+    subst (λ shape. AloneFits Old shape row) (sym (f.shape found.table old)) (alone_fits s found Old none stands row r)
 
 pub storable : (s : State) (found : Found) → TableStands s found → ((both : Shared) → shared s (number_of found.table) ≡ Some both → PairStands s (number_of found.table) both) → (form : Form) (before : Option (List Value)) (row : Kept) → FormSuits s (number_of found.table) form
     → SiteRow (λ lost. Unit {0}) (site_of s found) row → HasNew (site_of s found).there row.halves → ((both : Shared) → shared s (number_of found.table) ≡ Some both → HalvesAgree both.lens row.halves) → WeighsOver form before row.lost → Storable form before row
-storable s found stands pairs Own before row f r h a w = let has = calm_has s found f stands row r in (record { values = has.values; halves = has.halves }, w)
+storable s found stands pairs (Own side) before row f r h a w = let has = alone_fits s found side f stands row r in (record { values = has.values; halves = has.halves }, w)
 storable s found stands pairs (Paired pair) before row f r h a w =
     let both = f.both in
     let there = ap (option_map (beside_on found.side)) f.shares in

@@ -8,7 +8,8 @@ use Rattle.roll_core.proofs.Words.{after_changes, meant, slice_set, changed, Sam
 use Rattle.roll_core.proofs.Words.{rows_put, Site, lost_columns_of, IsStatement, IsStoredRow, lost_columns_by}
 use Rattle.roll_core.proofs.Words.finite
 use Rattle.roll_core.proofs.Rows.{Stores}
-use Rattle.roll_core.proofs.Fitting.{Weighs, calm_shared, form_stands, storable}
+use Rattle.roll_core.proofs.Fitting.{Weighs, alone_shared, form_stands, storable}
+use Rattle.roll_core.proofs.Runs.{calm_none}
 use Rattle.roll_core.proofs.Made.{HasNew, Placed, PutBy, SideOf, changes_placed, of_put}
 use Rattle.roll_core.proofs.Tables.{each_of}
 use Rattle.roll_core.proofs.Storing.{stores_row}
@@ -52,11 +53,14 @@ pub stored_agree : PairsAreLong → (s : State) (number : ℕ) (form : Form) →
 stored_agree long s number form suits [] both is = tt
 stored_agree long s number form suits (row ∷ rows) both is = (by_form form suits, stored_agree long s number form suits rows both is)
   where
+    unshared : shared s number ≡ None → ⊥
+    unshared none = cc
+
     no_pair : s.mode ≡ Calm → ⊥
-    no_pair m = let none = calm_shared s number m in cc
+    no_pair m = unshared (alone_shared s number Old (calm_none s number m))
 
     by_form : (form : Form) → FormSuits s number form → HalvesAgree both.lens (kept form row).halves
-    by_form Own f = absurd (no_pair f)
+    by_form (Own side) f = absurd (unshared (alone_shared s number side f))
     by_form (Left pair) f = absurd (no_pair f.calm)
     by_form (Trimmed pair) f = absurd (no_pair f.calm)
     by_form (Paired pair) f =

@@ -2,9 +2,10 @@
 use Rattle.roll_core.proofs.Words.{Below, int_eq_equiv, arith, ◌≡◌, ◌∙◌, ℕ, zero, suc, ℤ, List, [], ◌∷◌, Bool, true, false, ◌||◌, if◌then◌else◌, length, map, nat_lt, take, filter, ap, refl, sym}
 use Rattle.roll_core.proofs.Words.{subst, int_cmp, int_eq, Less, Each, list_any, is_eq, nat_tests, int_cmp_total, Kept, rows_at, is_missing, Ascends, keys_missing, slice_get-get_or, ◌<◌, Option, Some}
 use Rattle.roll_core.proofs.Words.{None, find, drop, option_map, option_and_then, slice_get, slice_index_or, option_map_or, option_or, length-map, either_none, some_same, Calm, State, bad_batch}
-use Rattle.roll_core.proofs.Words.{first_of, has_missing, inactive, may_not_fill, steps_left, unfilled_tables, Shared, missing_keys, rows_of, shared, Form, Own, Paired, Left, Trimmed, FirstUnfilled}
-use Rattle.roll_core.proofs.Words.{is_unfilled, number_at, OwnTable, FormSuits, Runs, meant, seen, StoredTable, rows_meant, table_meant}
-use Rattle.roll_core.proofs.Tables.{all_at, each_place, got_mapped, rows_of-read}
+use Rattle.roll_core.proofs.Words.{first_of, has_missing, inactive, may_not_fill, steps_left, unfilled_tables, Shared, rows_of, Form, Own, Paired, Left, Trimmed, FirstUnfilled}
+use Rattle.roll_core.proofs.Words.{◌&&◌, is_paired, is_unfilled, number_at, OwnTable, FormSuits, Runs, meant, seen, StoredTable, rows_meant, table_meant}
+use Rattle.roll_core.proofs.Fitting.{alone_shared}
+use Rattle.roll_core.proofs.Tables.{all_at, each_place, got_mapped, rows_of-read, suits_meant}
 
 -- ---- the rows of the first keys
 
@@ -69,11 +70,6 @@ any_left (row ∷ rows) =
 
 -- ---- what holds of rows holds of some of them
 
-pub each_left : (P : Kept → Type 0) (p : Kept → Bool) (rows : List Kept) → Each P rows → Each P (filter p rows)
-each_left P p [] h = tt
-each_left P p (row ∷ rows) h =
-    elim (p row) as (λ b. Each P (if b then row ∷ filter p rows else filter p rows)) [ true ↦ (h.0, each_left P p rows h.1) | false ↦ each_left P p rows h.1 ]
-
 pub each_taken : (P : Kept → Type 0) (n : ℕ) (rows : List Kept) → Each P rows → Each P (take n rows)
 each_taken P zero rows h = subst (Each P) (sym (none_taken rows)) tt
 each_taken P (suc n) [] h = tt
@@ -87,12 +83,14 @@ active s n e calm =
     let is : inactive Calm ≡ None = ap inactive (sym calm) ∙ second.1 in
     cc
 
--- Then each table is one of both versions.
-suits_shared : (s : State) (number : ℕ) (form : Form) → FormSuits s number form → ¬ (s.mode ≡ Calm) → (both : Shared) × (shared s number ≡ Some both)
-suits_shared s number Own h live = absurd (live h)
-suits_shared s number (Paired pair) h live = (h.both, h.shares)
-suits_shared s number (Left pair) h live = absurd (live h.calm)
-suits_shared s number (Trimmed pair) h live = absurd (live h.calm)
+-- Then only a table that both versions have has rows to be filled.
+tells_by : (s : State) (number : ℕ) (form : Form) (rows : List Kept) → FormSuits s number form → rows_of s number ≡ rows → ¬ (s.mode ≡ Calm) → has_missing s number ≡ (is_paired form && list_any is_missing rows)
+tells_by s number (Own side) rows f e live = ap (λ (both : Option Shared). nat_lt 0 (length (option_map_or (λ pair. keys_missing (rows_of s number)) both []))) (alone_shared s number side f)
+tells_by s number (Paired pair) rows f e live =
+    ap (λ (both : Option Shared). nat_lt 0 (length (option_map_or (λ pair. keys_missing (rows_of s number)) both []))) f.shares
+    ∙ ap (λ rows. nat_lt 0 (length (keys_missing rows))) e ∙ any_left rows
+tells_by s number (Left pair) rows f e live = absurd (live f.calm)
+tells_by s number (Trimmed pair) rows f e live = absurd (live f.calm)
 
 abbrev Tells : State → StoredTable → Type 0
 Tells s table = has_missing s table.number ≡ is_unfilled table
@@ -100,10 +98,9 @@ Tells s table = has_missing s table.number ≡ is_unfilled table
 tells : Below → (frame : State) (tables : List StoredTable) → Runs frame tables → ¬ (frame.mode ≡ Calm) → Each (Tells (meant frame tables)) tables
 tells law frame tables runs live = each_place (Tells (meant frame tables)) tables (λ at table e.
     let s = meant frame tables in
-    let both = suits_shared frame table.number table.form (all_at (λ table. FormSuits frame table.number table.form) tables at table runs.forms e) live in
+    let suits = suits_meant frame tables table.number table.form (all_at (λ table. FormSuits frame table.number table.form) tables at table runs.forms e) in
     let rows = rows_of-read law frame tables at table.number table runs.stands (record { here = e; numbered = refl }) in
-    let keys : missing_keys s table.number ≡ keys_missing (rows_of s table.number) = ap (λ (o : Option Shared). option_map_or (λ pair. keys_missing (rows_of s table.number)) o []) both.1 in
-    ap (λ keys. nat_lt 0 (length keys)) keys ∙ ap (λ rows. nat_lt 0 (length (keys_missing rows))) rows ∙ any_left (rows_meant table))
+    tells_by s table.number table.form (rows_meant table) suits rows live)
 
 first_number : (s : State) (tables : List StoredTable) → Each (Tells s) tables → first_of (filter (has_missing s) (map (λ table. table.0) (map table_meant tables))) ≡ option_map (λ table. table.number) (find is_unfilled tables)
 first_number s [] h = refl

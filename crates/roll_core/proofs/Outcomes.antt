@@ -1,9 +1,25 @@
 -- What an outcome of several parts says of each.
-use Rattle.roll_core.proofs.Words.{IfOk, ◌∙◌, option_map, ◌≡◌, Option, Some, None, Result, Ok, Err, ap, refl, subst, and_then, and_then_ok, guarded, map_fault, ok_same, without}
+use Rattle.roll_core.proofs.Words.{Bool, true, false, not, ◌||◌, IfOk, ◌∙◌, option_map, ◌≡◌, Option, Some, None, Result, Ok, Err, ap, refl, subst, and_then, and_then_ok, guarded, map_fault, ok_same, without}
 
 pub none_mapped : {X Y : Type 0} (f : X → Y) (o : Option X) → option_map f o ≡ None → o ≡ None
 none_mapped f None e = refl
 none_mapped f (Some x) e = cc
+
+-- ---- tests
+
+pub left_of : (a b : Bool) → (a || b) ≡ true → b ≡ false → a ≡ true
+left_of true b h e = refl
+left_of false b h e = cc
+
+pub not_true : (b : Bool) → ¬ (b ≡ true) → b ≡ false
+not_true true h = absurd (h refl)
+not_true false h = refl
+
+pub not_is : (b : Bool) → not b ≡ true → b ≡ false
+not_is true h = cc
+not_is false h = refl
+
+-- ---- outcomes
 
 pub guarded_ok : {T E : Type 0} (fault : Option E) (next : Result T E) (y : T) → guarded fault next ≡ Ok y → (fault ≡ None) × (next ≡ Ok y)
 guarded_ok None next y h = (refl, h)

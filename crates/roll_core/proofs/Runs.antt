@@ -1,9 +1,9 @@
 -- What both versions have of a table, and that what an engine stores is what its steps are promised.
-use Rattle.roll_core.proofs.Words.{lens_between, newer_schema, Both, State, form_in, over_pair, Paired, Former, shared, ◌≡◌, ◌∙◌, ℕ, List, Option, Some, None, true, ap, refl, sym, subst, option_map}
-use Rattle.roll_core.proofs.Words.{option_and_then, some_same, Schema, Shape, Lens, Fate, IsSchema, Joins, IsWellFormed, fits, Table, table_numbered, shape_of, Shared, lens_among, IsPair, pair_over}
-use Rattle.roll_core.proofs.Words.{meaning, false, ◌==◌, if◌then◌else◌, nat_eq, list_any, Mode, Calm, IsState, ModeStands, NewerStands, Pair, Form, Own, Left, Trimmed, FormSuits, LeftBy, Runs}
-use Rattle.roll_core.proofs.Words.{numbers_in, FormerStands, HasFormer, IsStored, IsStoredTable, Stored, StoredTable, both_again, calm_form, former_pair}
-use Rattle.roll_core.proofs.Tables.{all_at, each_of, each_place, numbers_of-meant, own_number}
+use Rattle.roll_core.proofs.Words.{newer_schema, Both, State, form_in, over_pair, Paired, Former, shared, ◌≡◌, ◌∙◌, ℕ, List, Option, Some, None, true, ap, refl, sym, subst, option_map}
+use Rattle.roll_core.proofs.Words.{option_and_then, some_same, Schema, Shape, Lens, Fate, IsSchema, IsWellFormed, Joins, fits, Table, table_numbered, shape_of, Shared, lens_among, IsPair, pair_over}
+use Rattle.roll_core.proofs.Words.{false, ◌==◌, if◌then◌else◌, Mode, Calm, IsState, Pair, Form, Own, Left, Trimmed, FormSuits, LeftBy, Runs, Below, New, Old, is_some, meant, other, side_alone, table_on}
+use Rattle.roll_core.proofs.Words.{FormerStands, HasFormer, IsStored, IsStoredTable, Stored, StoredTable, both_again, calm_form, former_pair}
+use Rattle.roll_core.proofs.Tables.{each_of}
 
 -- What both have, where they have it and a lens.
 abbrev pub shared_of : Option Lens → Option Table → Option Table → Option Shared
@@ -20,24 +20,9 @@ shared_parts (Some lens) (Some new) (Some old) both h =
     let same = some_same (record { old = old; new = new; lens = lens }) both h in
     (ap (λ (b : Shared). Some b.old) same, ap (λ (b : Shared). Some b.new) same, ap (λ (b : Shared). Some b.lens) same)
 
-pub no_lens : (new old : Option Table) → shared_of None new old ≡ None
-no_lens new None = refl
-no_lens None (Some old) = refl
-no_lens (Some new) (Some old) = refl
-
-shape_found : (found : Option Table) (shape : Shape) → option_map (λ table. table.2) found ≡ Some shape → (table : Table) × (found ≡ Some table)
-shape_found None shape h = cc
-shape_found (Some table) shape h = (table, refl)
-
-have_both : (has : Option Lens) (newer older : Option Table) (lens : Lens) (new old : Table) → has ≡ Some lens → newer ≡ Some new → older ≡ Some old → shared_of has newer older ≡ Some (record { old = old; new = new; lens = lens })
-have_both has newer older lens new old a b c = rw (a, b, c) refl
-
--- A table whose lens joins the two versions is.
-pub joined_both : (old new : Schema) (fates : List (ℕ × Fate)) (number : ℕ) (lens : Lens) → lens_among fates number ≡ Some lens → Joins lens number old new → (both : Shared) × (shared_in old new fates number ≡ Some both)
-joined_both old new fates number lens l joined =
-    let older = shape_found (table_numbered old number) joined.before joined.in_old in
-    let newer = shape_found (table_numbered new number) joined.after joined.in_new in
-    (record { old = older.0; new = newer.0; lens = lens }, have_both (lens_among fates number) (table_numbered new number) (table_numbered old number) lens newer.0 older.0 l newer.1 older.1)
+pub no_new : (lens : Option Lens) (old : Option Table) → shared_of lens None old ≡ None
+no_new lens None = refl
+no_new lens (Some old) = refl
 
 same_shape : (found : Option Table) (table : Table) (shape : Shape) → found ≡ Some table → option_map (λ table. table.2) found ≡ Some shape → shape ≡ shape_of table
 same_shape found table shape f h = some_same shape (shape_of table) (sym h ∙ ap (option_map (λ (table : Table). table.2)) f)
@@ -56,45 +41,55 @@ joined_pair old new fates number both is_old is_new h joined =
       layout = refl;
     }
 
-pub active_form : (former : Option Former) (frame : State) (number : ℕ) (name : List ℕ) (schema : Schema) (fates : List (ℕ × Fate)) → frame.mode ≡ Both name schema fates → form_in former frame number ≡ over_pair Paired (shared_in frame.schema schema fates number)
-active_form former frame number name schema fates m = rw m refl
-
 -- ---- while both versions stand
 
--- What holds of a table: both versions have it, and it is stored over its pair.
-pub record BothHave (frame : State) (schema : Schema) (fates : List (ℕ × Fate)) (table : StoredTable) : Type 0 where
-  pub both : Shared
-  pub is : shared_in frame.schema schema fates table.number ≡ Some both
-  pub shares : shared frame table.number ≡ Some both
-  pub new : table_numbered schema table.number ≡ Some both.new
-  pub lens : lens_among fates table.number ≡ Some both.lens
-  pub is_pair : IsPair (pair_over both)
-  pub form : table.form ≡ Paired (pair_over both)
+pub active_form : (former : Option Former) (frame : State) (number : ℕ) (name : List ℕ) (schema : Schema) (fates : List (ℕ × Fate)) → frame.mode ≡ Both name schema fates
+    → form_in former frame number ≡ over_pair Paired (side_alone frame number) (shared frame number)
+active_form former frame number name schema fates m =
+    ap (λ (mode : Mode). elim mode [ Calm ↦ calm_form former frame number | Both name schema fates ↦ over_pair Paired (side_alone frame number) (shared frame number) ]) m
 
-pub both_have : (stored : Stored) (name : List ℕ) (schema : Schema) (fates : List (ℕ × Fate)) → stored.frame.mode ≡ Both name schema fates
-    → IsState (meaning stored) → (table : StoredTable) → list_any (nat_eq table.number) (numbers_in stored.tables) ≡ true
-    → IsStoredTable stored table → BothHave stored.frame schema fates table
-both_have stored name schema fates m stands table a t =
-    let frame = stored.frame in
-    let number = table.number in
-    let newer : NewerStands (meaning stored) name schema fates = subst (ModeStands (meaning stored)) m stands.mode in
-    let among = subst (λ ns. list_any (nat_eq number) ns ≡ true) (sym (numbers_of-meant frame stored.tables)) a in
-    let lens = newer.kept number among in
-    let there = joined_both frame.schema schema fates number lens.0 lens.1 (newer.joined number lens.0 lens.1) in
-    let both = there.0 in
-    let parts = shared_parts (lens_among fates number) (table_numbered schema number) (table_numbered frame.schema number) both there.1 in
-    let joined = newer.joined number both.lens parts.2 in
+-- What both have of a table is a pair.
+pub both_pair : Below → (s : State) (number : ℕ) (both : Shared) → IsState s → shared s number ≡ Some both → IsPair (pair_over both)
+both_pair law s number both stands e =
+    let p = law.shared s number both stands e in
     record {
-      both = both;
-      is = there.1;
-      shares = ap (λ mode. shared_of (lens_between mode number) (option_and_then (λ schema. table_numbered schema number) (newer_schema mode)) (table_numbered frame.schema number)) m ∙ there.1;
-      new = parts.1;
-      lens = parts.2;
-      is_pair = joined_pair frame.schema schema fates number both stands.version.schema_stands newer.version.schema_stands there.1 joined;
-      form = t.form ∙ active_form stored.former frame number name schema fates m ∙ ap (over_pair Paired) there.1;
+      old = stands.version.schema_stands.shapes number (shape_of both.old) (ap (option_map (λ (table : Table). table.2)) p.old);
+      new = (law.filling s number both stands e).1.well_formed;
+      fitting = p.fitting;
+      lens = p.well_formed;
+      layout = refl;
     }
 
+pub none_there : {X : Type 0} (o : Option X) → is_some o ≡ false → o ≡ None
+none_there None h = refl
+none_there (Some x) h = cc
+
+pub not_there : {X : Type 0} (o : Option X) → ¬ (is_some o ≡ true) → o ≡ None
+not_there None h = refl
+not_there (Some x) h = absurd (h refl)
+
+-- What isn't shared only one of them has.
+pub unshared : Below → (frame : State) (tables : List StoredTable) (number : ℕ) → IsState (meant frame tables) → shared frame number ≡ None
+    → is_some (table_on frame Old number) ≡ true → table_on frame New number ≡ None
+unshared law frame tables number stands none old =
+    not_there (table_on frame New number) (λ new. let some : is_some (shared frame number) ≡ true = law.both (meant frame tables) number stands old new in let no : false ≡ true = sym (ap is_some none) ∙ some in cc)
+
+lacks : Below → (frame : State) (tables : List StoredTable) (number : ℕ) → IsState (meant frame tables) → shared frame number ≡ None → table_on frame (other (side_alone frame number)) number ≡ None
+lacks law frame tables number stands none =
+    elim (is_some (table_on frame Old number)) as (λ has. is_some (table_on frame Old number) ≡ has → table_on frame (other (if has then Old else New)) number ≡ None)
+    [ true ↦ λ has. unshared law frame tables number stands none has | false ↦ λ has. none_there (table_on frame Old number) has ] refl
+
+both_suits : Below → (frame : State) (tables : List StoredTable) (number : ℕ) → IsState (meant frame tables) → FormSuits frame number (over_pair Paired (side_alone frame number) (shared frame number))
+both_suits law frame tables number stands =
+    elim (shared frame number) as (λ both. shared frame number ≡ both → FormSuits frame number (over_pair Paired (side_alone frame number) both)) [
+      | None ↦ λ e. lacks law frame tables number stands e
+      | Some both ↦ λ e. record { both = both; shares = e; over = refl; is_pair = both_pair law (meant frame tables) number both stands e }
+    ] refl
+
 -- ---- while one does
+
+pub calm_none : (s : State) (number : ℕ) → s.mode ≡ Calm → table_on s New number ≡ None
+calm_none s number m = ap (λ mode. option_and_then (λ schema. table_numbered schema number) (newer_schema mode)) m
 
 left_by : (frame : State) (former : Former) → frame.mode ≡ Calm → IsSchema frame.schema → FormerStands frame former → (number : ℕ) (pair : Shared)
     → shared (both_again former frame) number ≡ Some pair → LeftBy frame number (pair_over pair)
@@ -106,8 +101,8 @@ left_by frame former m is stands number pair h =
       shape = λ table e. ap shape_of (some_same pair.new table (sym parts.1 ∙ e));
     }
 
-over_suits : (form : Pair → Form) (s : State) (number : ℕ) (o : Option Shared) → s.mode ≡ Calm → ((pair : Shared) → o ≡ Some pair → FormSuits s number (form (pair_over pair))) → FormSuits s number (over_pair form o)
-over_suits form s number None m h = m
+over_suits : (form : Pair → Form) (s : State) (number : ℕ) (o : Option Shared) → s.mode ≡ Calm → ((pair : Shared) → o ≡ Some pair → FormSuits s number (form (pair_over pair))) → FormSuits s number (over_pair form Old o)
+over_suits form s number None m h = calm_none s number m
 over_suits form s number (Some pair) m h = h pair refl
 
 pub former_by : (frame : State) (former : Option Former) → frame.mode ≡ Calm → IsSchema frame.schema → HasFormer frame former → (number : ℕ) (pair : Shared) → former_pair former frame number ≡ Some pair → LeftBy frame number (pair_over pair)
@@ -118,30 +113,26 @@ calm_suits : (frame : State) (former : Option Former) → frame.mode ≡ Calm �
 calm_suits frame former m is h number =
     let over = former_pair former frame number in
     let left = λ (pair : Shared) (e : over ≡ Some pair). former_by frame former m is h number pair e in
-    elim (frame.left == 2) as (λ two. FormSuits frame number (if two then over_pair Left over else if frame.left == 1 then over_pair Trimmed over else Own)) [
+    elim (frame.left == 2) as (λ two. FormSuits frame number (if two then over_pair Left Old over else if frame.left == 1 then over_pair Trimmed Old over else Own Old)) [
       | true ↦ over_suits Left frame number over m left
-      | false ↦ elim (frame.left == 1) as (λ one. FormSuits frame number (if one then over_pair Trimmed over else Own)) [ true ↦ over_suits Trimmed frame number over m left | false ↦ m ]
+      | false ↦ elim (frame.left == 1) as (λ one. FormSuits frame number (if one then over_pair Trimmed Old over else Own Old)) [ true ↦ over_suits Trimmed frame number over m left | false ↦ calm_none frame number m ]
     ]
 
 -- ---- each table
 
-form_suits : (stored : Stored) → IsStored stored → (mode : Mode) → stored.frame.mode ≡ mode → (table : StoredTable) → list_any (nat_eq table.number) (numbers_in stored.tables) ≡ true → IsStoredTable stored table → FormSuits stored.frame table.number table.form
-form_suits stored is Calm m table a t =
+form_suits : Below → (stored : Stored) → IsStored stored → (mode : Mode) → stored.frame.mode ≡ mode → (table : StoredTable) → IsStoredTable stored table → FormSuits stored.frame table.number table.form
+form_suits law stored is Calm m table t =
     let frame = stored.frame in
-    let form : table.form ≡ calm_form stored.former frame table.number = t.form ∙ ap (λ (mode : Mode). elim mode [ Calm ↦ calm_form stored.former frame table.number | Both name schema fates ↦ over_pair Paired (shared frame table.number) ]) m in
+    let form : table.form ≡ calm_form stored.former frame table.number = t.form ∙ ap (λ (mode : Mode). elim mode [ Calm ↦ calm_form stored.former frame table.number | Both name schema fates ↦ over_pair Paired (side_alone frame table.number) (shared frame table.number) ]) m in
     subst (FormSuits frame table.number) (sym form) (calm_suits frame stored.former m is.stands.version.schema_stands is.former table.number)
-form_suits stored is (Both name schema fates) m table a t =
-    let have = both_have stored name schema fates m is.stands table a t in
-    let paired : FormSuits stored.frame table.number (Paired (pair_over have.both)) =
-    record { both = have.both; shares = have.shares; over = refl; is_pair = have.is_pair } in
-    subst (FormSuits stored.frame table.number) (sym have.form) paired
+form_suits law stored is (Both name schema fates) m table t =
+    subst (FormSuits stored.frame table.number) (sym (t.form ∙ active_form stored.former stored.frame table.number name schema fates m)) (both_suits law stored.frame stored.tables table.number is.stands)
 
 -- What an engine stores can be run over.
-pub runs_of : (stored : Stored) → IsStored stored → Runs stored.frame stored.tables
-runs_of stored is = record {
+pub runs_of : Below → (stored : Stored) → IsStored stored → Runs stored.frame stored.tables
+runs_of law stored is = record {
   stands = is.stands;
-  forms = each_place (λ table. FormSuits stored.frame table.number table.form) stored.tables (λ at table e.
-      form_suits stored is stored.frame.mode refl table (own_number stored.tables at table e) (all_at (IsStoredTable stored) stored.tables at table is.tables e));
+  forms = each_of (λ (table : StoredTable) h. form_suits law stored is stored.frame.mode refl table h) stored.tables is.tables;
   lost = each_of (λ (table : StoredTable) h. h.lost) stored.tables is.tables;
   rows = each_of (λ (table : StoredTable) h. h.rows) stored.tables is.tables;
 }

@@ -1,21 +1,26 @@
 -- START leaves stored rows that mean what the machine leaves.
-use Rattle.roll_core.proofs.Words.{begun_parts, ◌≡◌, ◌∙◌, ℕ, List, [], ◌∷◌, Bool, true, false, Option, Some, None, Result, Ok, Err, inl, inr, map, ap, refl, sym, subst, if◌then◌else◌, AllByRecursion}
-use Rattle.roll_core.proofs.Words.{Each, map-map, option_map_or, option_or, row_fits, and_then_ok, either_none, and_then, Value, Lens, Refusal, Migration, Plan, IsSchema, Joins, has_mark}
-use Rattle.roll_core.proofs.Words.{table_numbered, Kept, Stop, Because, NoMemory, Answers, guarded, without, shape_of, begun_row, Calm, Both, State, CommandOutcome, Done, Started, active}
-use Rattle.roll_core.proofs.Words.{machine_begun, may_not_start, planned, start_planned, start_read, started, steps_left, taken, too_heavy, unrun, HalfStands, IsState, RowsStand, StepsStand}
-use Rattle.roll_core.proofs.Words.{TablesStand, may_lose, Shared, lens_among, table_on, Old, Pair, BeginningLeaves, BegunRowsHold, IsPair, IsBegunRow, IsPairedRow, new_half, new_view, Form, Own}
-use Rattle.roll_core.proofs.Words.{Paired, Former, meant, AreKept, AreRun, Goes, begun_form, begun_frame, begun_table, startable, stepped_row, HasFormer, IsStoredRow, IsStoredTable, StoredRow, Stored}
-use Rattle.roll_core.proofs.Words.{StoredTable, form_in, kept, lost_columns_by, over_pair, pair_over, table_meant, Below}
+use Rattle.roll_core.proofs.Words.{begun_parts, ◌≡◌, ◌∙◌, ◌<◌, ◌++◌, ◌||◌, ℕ, List, [], ◌∷◌, Bool, true, false, Option, Some, None, Result, Ok, Err, inl, inr, map, ap, refl, sym, subst, if◌then◌else◌, AllByRecursion}
+use Rattle.roll_core.proofs.Words.{arith, Each, is_some, list_any, map-append, map-id, map-map, nat_eq, nat_tests, option_map, option_map_or, option_or, row_fits, slice_get, and_then_ok, either_none, and_then, Value}
+use Rattle.roll_core.proofs.Words.{Fate, Lens, Refusal, Migration, Plan, Table, has_mark, table_numbered, Kept, Stop, Because, NoMemory, Answers, guarded, without, shape_of, begun_row, Calm, Both, State}
+use Rattle.roll_core.proofs.Words.{CommandOutcome, Done, Started, active, created_in, created_table, created_tables, machine_begun, may_not_start, numbers_of, planned, start_planned, start_read, started}
+use Rattle.roll_core.proofs.Words.{steps_left, taken, too_heavy, unrun, HalfStands, IsState, NewerStands, NumbersAscend, RowsStand, StepsStand, is_known, may_lose, Shared, lens_among, table_on, New, Old, Pair}
+use Rattle.roll_core.proofs.Words.{BeginningLeaves, BegunRowsHold, IsPair, IsBegunRow, IsPairedRow, new_half, new_view, Form, Own, Paired, Former, meaning, meant, AreKept, AreRun, Goes, begun_form}
+use Rattle.roll_core.proofs.Words.{begun_frame, begun_table, shared_by, startable, stepped_row, HasFormer, IsStoredRow, IsStoredTable, StoredRow, Stored, StoredTable, form_in, kept, lost_columns_by}
+use Rattle.roll_core.proofs.Words.{over_pair, pair_over, table_meant, Below}
+use Rattle.roll_core.proofs.Words.{◌≤◌, ◌+◌, length, ok_same}
 use Rattle.roll_core.proofs.Words.reply_of
+use Rattle.machine.specs.Migrate.{unplanned}
+use Rattle.mig_lens.specs.declared.faults.PlanFault.{PlanFault}
+use Rattle.mig_plan.specs.Plan.{plan_of}
 use Rattle.trigger_pair.specs.Stored.{begun}
-use Rattle.roll_core.proofs.Outcomes.{err_by, guarded_ok, without_ok}
+use Rattle.roll_core.proofs.Outcomes.{err_by, guarded_ok, left_of, without_ok}
 use Rattle.roll_core.proofs.Stepped.{StepsTo, rows_next, no_form}
-use Rattle.roll_core.proofs.Tables.{each_all, each_mapped, none_lost}
-use Rattle.roll_core.proofs.Runs.{joined_both, joined_pair, no_lens, shared_of, shared_parts}
+use Rattle.roll_core.proofs.Tables.{all_at, each_all, each_joined, each_mapped, each_of, each_place, got_mapped, none_lost, rest_ascends, rows_of-read, side_among}
+use Rattle.roll_core.proofs.Runs.{both_pair, calm_none, shared_of}
 
 -- ---- one row
 
-row_begun : BegunRowsHold → (both : Shared) (row : StoredRow) → IsPair (pair_over both) → row_fits (shape_of both.old) row.1 ≡ true → kept (Paired (pair_over both)) (stepped_row (Paired (pair_over both)) row) ≡ begun_row both.lens (kept Own row)
+row_begun : BegunRowsHold → (both : Shared) (row : StoredRow) → IsPair (pair_over both) → row_fits (shape_of both.old) row.1 ≡ true → kept (Paired (pair_over both)) (stepped_row (Paired (pair_over both)) row) ≡ begun_row both.lens (kept (Own Old) row)
 row_begun law both row is fit =
     let pair = pair_over both in
     let stored = begun pair row.1 in
@@ -32,11 +37,11 @@ row_is_stored law pair values is fit =
 -- ---- the rows of a table
 
 row_begins : Below → (both : Shared) (row : StoredRow) → IsPair (pair_over both) → row_fits (shape_of both.old) row.1 ≡ true
-    → StepsTo (Paired (pair_over both)) (Paired (pair_over both)) (λ row. begun_row both.lens (kept Own row)) row
+    → StepsTo (Paired (pair_over both)) (Paired (pair_over both)) (λ row. begun_row both.lens (kept (Own Old) row)) row
 row_begins law both row is fit = (row_begun law.begun both row is fit, row_is_stored law.paired (pair_over both) row.1 is fit)
 
-rows_begin : Below → (s : State) (number : ℕ) (both : Shared) (rows : List StoredRow) → IsPair (pair_over both) → table_on s Old number ≡ Some both.old → RowsStand s number (map (kept Own) rows)
-    → Each (StepsTo (Paired (pair_over both)) (Paired (pair_over both)) (λ row. begun_row both.lens (kept Own row))) rows
+rows_begin : Below → (s : State) (number : ℕ) (both : Shared) (rows : List StoredRow) → IsPair (pair_over both) → table_on s Old number ≡ Some both.old → RowsStand s number (map (kept (Own Old)) rows)
+    → Each (StepsTo (Paired (pair_over both)) (Paired (pair_over both)) (λ row. begun_row both.lens (kept (Own Old) row))) rows
 rows_begin law s number both [] is on h = tt
 rows_begin law s number both (row ∷ rows) is on h =
     let half : HalfStands (Some both.old) row.0 (Some row.1) = subst (λ table. HalfStands table row.0 (Some row.1)) on h.0.old in
@@ -46,40 +51,39 @@ rows_begin law s number both (row ∷ rows) is on h =
 
 -- What holds of the tables when START is accepted.
 pub record Begins (frame : State) (plan : Plan) : Type 0 where
-  pub old : IsSchema frame.schema
-  pub new : IsSchema plan.schema
-  pub joined : (number : ℕ) (lens : Lens) → lens_among plan.fates number ≡ Some lens → Joins lens number frame.schema plan.schema
+  pub lenses : (number : ℕ) → option_map (λ both. both.lens) (shared_by frame plan number) ≡ lens_among plan.fates number
+  pub pairs : (number : ℕ) (both : Shared) → shared_by frame plan number ≡ Some both → IsPair (pair_over both)
+  pub olds : (number : ℕ) (both : Shared) → shared_by frame plan number ≡ Some both → table_on frame Old number ≡ Some both.old
   pub nothing_lost : frame.lost_columns ≡ []
 
 -- A table that stands in the form of one version.
 record IsBegun (frame : State) (plan : Plan) (table : StoredTable) : Type 0 where
-  means : table_meant (begun_table frame plan table) ≡ machine_begun plan.fates (table.number, map (kept Own) table.rows)
+  means : table_meant (begun_table frame plan table) ≡ machine_begun plan.fates (table.number, map (kept (Own Old)) table.rows)
   rows : AllByRecursion (λ row. IsStoredRow (begun_form frame plan table.number) row.1) (begun_table frame plan table).rows
   lost : lost_columns_by (begun_form frame plan table.number) ≡ 0
 
-is_begun : Below → (frame : State) (all : List StoredTable) (plan : Plan) (table : StoredTable) → Begins frame plan → RowsStand (meant frame all) table.number (map (kept Own) table.rows) → IsBegun frame plan table
+is_begun : Below → (frame : State) (all : List StoredTable) (plan : Plan) (table : StoredTable) → Begins frame plan → RowsStand (meant frame all) table.number (map (kept (Own Old)) table.rows) → IsBegun frame plan table
 is_begun law frame all plan table b stand =
     let number = table.number in
-    let meant_by = λ (lens : Option Lens). option_map_or {U = ℕ × List Kept} (λ lens. (number, map (begun_row lens) (map (kept Own) table.rows))) lens (number, map (kept Own) table.rows) in
+    let meant_by = λ (lens : Option Lens). option_map_or {U = ℕ × List Kept} (λ lens. (number, map (begun_row lens) (map (kept (Own Old)) table.rows))) lens (number, map (kept (Own Old)) table.rows) in
     let table_by : Form → StoredTable = λ form. record { number = number; form = form; rows = map (stepped_row form) table.rows } in
-    elim (lens_among plan.fates number) as (λ lens. lens_among plan.fates number ≡ lens → IsBegun frame plan table) [
-      | None ↦ λ l.
-          let form : begun_form frame plan number ≡ Own = ap (over_pair Paired) (ap (λ lens. shared_of lens (table_numbered plan.schema number) (table_numbered frame.schema number)) l ∙ no_lens (table_numbered plan.schema number) (table_numbered frame.schema number)) in
-          let next = rows_next Own Own (kept Own) table.rows (each_all (λ row. (refl, tt)) table.rows) in
+    let lens_of : Option Shared → Option Lens = option_map (λ both. both.lens) in
+    elim (shared_by frame plan number) as (λ both. shared_by frame plan number ≡ both → IsBegun frame plan table) [
+      | None ↦ λ e.
+          let form : begun_form frame plan number ≡ Own Old = ap (over_pair Paired Old) e in
+          let lens : lens_among plan.fates number ≡ None = sym (b.lenses number) ∙ ap lens_of e in
+          let next = rows_next (Own Old) (Own Old) (kept (Own Old)) table.rows (each_all (λ row. (refl, tt)) table.rows) in
           record {
-            means = ap (λ form. table_meant (table_by form)) form ∙ ap (λ (rows : List Kept). (number, rows)) next.0 ∙ ap meant_by (sym l);
+            means = ap (λ form. table_meant (table_by form)) form ∙ ap (λ (rows : List Kept). (number, rows)) next.0 ∙ ap meant_by (sym lens);
             rows = subst (λ form. AllByRecursion (λ row. IsStoredRow form row.1) (map (stepped_row form) table.rows)) (sym form) next.1;
             lost = ap lost_columns_by form;
           }
-      | Some lens ↦ λ l.
-          let found = joined_both frame.schema plan.schema plan.fates number lens l (b.joined number lens l) in
-          let both = found.0 in
-          let parts = shared_parts (lens_among plan.fates number) (table_numbered plan.schema number) (table_numbered frame.schema number) both found.1 in
-          let is = joined_pair frame.schema plan.schema plan.fates number both b.old b.new found.1 (b.joined number both.lens parts.2) in
-          let form : begun_form frame plan number ≡ Paired (pair_over both) = ap (over_pair Paired) found.1 in
-          let next = rows_next (Paired (pair_over both)) (Paired (pair_over both)) (λ row. begun_row both.lens (kept Own row)) table.rows (rows_begin law (meant frame all) number both table.rows is parts.0 stand) in
+      | Some both ↦ λ e.
+          let form : begun_form frame plan number ≡ Paired (pair_over both) = ap (over_pair Paired Old) e in
+          let lens : lens_among plan.fates number ≡ Some both.lens = sym (b.lenses number) ∙ ap lens_of e in
+          let next = rows_next (Paired (pair_over both)) (Paired (pair_over both)) (λ row. begun_row both.lens (kept (Own Old) row)) table.rows (rows_begin law (meant frame all) number both table.rows (b.pairs number both e) (b.olds number both e) stand) in
           record {
-            means = ap (λ form. table_meant (table_by form)) form ∙ ap (λ (rows : List Kept). (number, rows)) (next.0 ∙ sym (map-map (begun_row both.lens) (kept Own) table.rows)) ∙ ap meant_by (sym parts.2);
+            means = ap (λ form. table_meant (table_by form)) form ∙ ap (λ (rows : List Kept). (number, rows)) (next.0 ∙ sym (map-map (begun_row both.lens) (kept (Own Old)) table.rows)) ∙ ap meant_by (sym lens);
             rows = subst (λ form. AllByRecursion (λ row. IsStoredRow form row.1) (map (stepped_row form) table.rows)) (sym form) next.1;
             lost = ap lost_columns_by form;
           }
@@ -87,26 +91,89 @@ is_begun law frame all plan table b stand =
 
 -- ---- all tables
 
--- Each is stored as its version has it, and its rows stand.
-abbrev AllOwn : State → List StoredTable → Type 0
-AllOwn s tables = AllByRecursion (λ table. (table.form ≡ Own) × RowsStand s table.number (map (kept Own) table.rows)) tables
+-- Each is stored as its version has it, which has it, and its rows stand.
+record IsOwn (frame : State) (all : List StoredTable) (table : StoredTable) : Type 0 where
+  form : table.form ≡ Own Old
+  there : is_some (table_on frame Old table.number) ≡ true
+  rows : RowsStand (meant frame all) table.number (map (kept (Own Old)) table.rows)
 
-all_own : (s : State) (former : Option Former) (frame : State) (stored : Stored) (tables : List StoredTable) → ((number : ℕ) → form_in stored.former stored.frame number ≡ Own) → TablesStand s (map table_meant tables) → AllByRecursion (IsStoredTable stored) tables → AllOwn s tables
-all_own s former frame stored [] own h t = tt
-all_own s former frame stored (table ∷ tables) own h t =
-    let form : table.form ≡ Own = t.0.form ∙ own table.number in
-    ((form, subst (λ form. RowsStand s table.number (map (kept form) table.rows)) form h.1), all_own s former frame stored tables own h.2 t.1)
+own_at : Below → (frame : State) (former : Option Former) (all : List StoredTable) → frame.mode ≡ Calm → frame.left ≡ 0 → IsState (meant frame all)
+    → (at : ℕ) (table : StoredTable) → slice_get all at ≡ Some table → IsStoredTable (record { frame = frame; former = former; tables = all }) table → IsOwn frame all table
+own_at law frame former all m left stands at table e t =
+    let s = meant frame all in
+    let form : table.form ≡ Own Old = t.form ∙ no_form former frame table.number m left in
+    let known = all_at (λ (table : ℕ × List Kept). is_known s table.0 ≡ true) s.tables at (table_meant table) (law.known s stands) (got_mapped table_meant all at table e) in
+    let read = rows_of-read law frame all at table.number table stands (record { here = e; numbered = refl }) in
+    record {
+      form = form;
+      there = left_of (is_some (table_on frame Old table.number)) (is_some (table_on frame New table.number)) known (ap is_some (calm_none frame table.number m));
+      rows = subst (λ form. RowsStand s table.number (map (kept form) table.rows)) form (subst (RowsStand s table.number) read (law.rows s table.number stands).1);
+    }
 
-tables_mean : Below → (frame : State) (all : List StoredTable) (plan : Plan) → Begins frame plan → (tables : List StoredTable) → AllOwn (meant frame all) tables → map table_meant (map (begun_table frame plan) tables) ≡ map (machine_begun plan.fates) (map table_meant tables)
+tables_mean : Below → (frame : State) (all : List StoredTable) (plan : Plan) → Begins frame plan → (tables : List StoredTable) → Each (IsOwn frame all) tables → map table_meant (map (begun_table frame plan) tables) ≡ map (machine_begun plan.fates) (map table_meant tables)
 tables_mean law frame all plan b [] h = refl
 tables_mean law frame all plan b (table ∷ tables) h =
-    let here = (is_begun law frame all plan table b h.0.1).means ∙ ap (λ form. machine_begun plan.fates (table.number, map (kept form) table.rows)) (sym h.0.0) in
+    let here = (is_begun law frame all plan table b h.0.rows).means ∙ ap (λ form. machine_begun plan.fates (table.number, map (kept form) table.rows)) (sym h.0.form) in
     ap (λ (t : ℕ × List Kept). t ∷ map table_meant (map (begun_table frame plan) tables)) here ∙ ap (λ (ts : List (ℕ × List Kept)). machine_begun plan.fates (table_meant table) ∷ ts) (tables_mean law frame all plan b tables h.1)
 
-tables_stored : Below → (frame : State) (name : List ℕ) (former : Option Former) (all : List StoredTable) (plan : Plan) (new : List StoredTable) → Begins frame plan → (tables : List StoredTable) → AllOwn (meant frame all) tables
-    → AllByRecursion (IsStoredTable (record { frame = begun_frame frame name plan; former = former; tables = new })) (map (begun_table frame plan) tables)
+-- The form of a table that the old version has, once the plan is begun.
+is_form : (frame : State) (former : Option Former) (name : List ℕ) (plan : Plan) (number : ℕ) → is_some (table_on frame Old number) ≡ true → begun_form frame plan number ≡ form_in former (begun_frame frame name plan) number
+is_form frame former name plan number there = ap (λ has. over_pair Paired (if has then Old else New) (shared_by frame plan number)) (sym there)
+
+tables_stored : Below → (frame : State) (name : List ℕ) (former : Option Former) (all : List StoredTable) (plan : Plan) (new : List StoredTable) → Begins frame plan → (tables : List StoredTable) → Each (IsOwn frame all) tables
+    → Each (IsStoredTable (record { frame = begun_frame frame name plan; former = former; tables = new })) (map (begun_table frame plan) tables)
 tables_stored law frame name former all plan new b tables h = each_mapped (begun_table frame plan) _ (λ (table : StoredTable) own.
-    let is = is_begun law frame all plan table b own.1 in record { form = refl; lost = none_lost frame table.number b.nothing_lost ∙ sym is.lost; rows = is.rows }) tables h
+    let is = is_begun law frame all plan table b own.rows in record { form = is_form frame former name plan table.number own.there; lost = none_lost frame table.number b.nothing_lost ∙ sym is.lost; rows = is.rows }) tables h
+
+-- ---- tables that are created
+
+-- The created ones have greater numbers than those that stand.
+above : (number : ℕ) (numbers : List ℕ) → NumbersAscend (number ∷ numbers) → Each (λ other. number < other) numbers
+above number [] h = tt
+above number (next ∷ numbers) h = let less = h.0 in (less, each_of (λ other (more : next < other). omega (arith, less, more)) numbers (above next numbers h.1))
+
+right_each : (P : ℕ → Type 0) (xs ys : List ℕ) → Each P (xs ++ ys) → Each P ys
+right_each P [] ys h = h
+right_each P (x ∷ xs) ys h = right_each P xs ys h.1
+
+each_two : {P Q R : ℕ → Type 0} → ((n : ℕ) → P n → Q n → R n) → (ns : List ℕ) → Each P ns → Each Q ns → Each R ns
+each_two h [] p q = tt
+each_two h (n ∷ ns) p q = (h n p.0 q.0, each_two h ns p.1 q.1)
+
+apart : (standing created : List ℕ) → NumbersAscend (standing ++ created) → Each (λ number. list_any (nat_eq number) standing ≡ false) created
+apart [] created h = each_all (λ number. refl) created
+apart (first ∷ standing) created h =
+    let rest = apart standing created (rest_ascends first (standing ++ created) h) in
+    let greater = right_each (λ other. first < other) standing created (above first (standing ++ created) h) in
+    each_two (λ number (less : first < number) (none : list_any (nat_eq number) standing ≡ false). let differ : nat_eq number first ≡ false = grind (arith, nat_tests) in ap (λ b. b || list_any (nat_eq number) standing) differ ∙ none) created greater rest
+
+begun_numbers : (fates : List (ℕ × Fate)) (tables : List (ℕ × List Kept)) → map {B = ℕ} (λ table. table.0) (map (machine_begun fates) tables) ≡ map {B = ℕ} (λ table. table.0) tables
+begun_numbers fates [] = refl
+begun_numbers fates (table ∷ tables) =
+    let same = elim (lens_among fates table.0) as (λ lens. (option_map_or {U = ℕ × List Kept} (λ lens. (table.0, map (begun_row lens) table.1)) lens table).0 ≡ table.0) [ None ↦ refl | Some lens ↦ refl ] in
+    ap (λ (number : ℕ). number ∷ map {B = ℕ} (λ table. table.0) (map (machine_begun fates) tables)) same ∙ ap (λ (numbers : List ℕ). table.0 ∷ numbers) (begun_numbers fates tables)
+
+started_numbers : (s : State) (name : List ℕ) (plan : Plan) → numbers_of (started s name plan) ≡ numbers_of s ++ created_in plan.fates
+started_numbers s name plan =
+    let number : ℕ × List Kept → ℕ = λ table. table.0 in
+    map-append number (map (machine_begun plan.fates) s.tables) (created_tables plan.fates)
+    ∙ ap (λ numbers. numbers ++ map number (created_tables plan.fates)) (begun_numbers plan.fates s.tables)
+    ∙ ap (λ numbers. numbers_of s ++ numbers) (map-map number (λ (n : ℕ). (n, [])) (created_in plan.fates) ∙ map-id (created_in plan.fates))
+
+-- The old version has none of them.
+not_old : (s : State) (number : ℕ) → IsState s → list_any (nat_eq number) (numbers_of s) ≡ false → table_on s Old number ≡ None
+not_old s number stands none =
+    elim (table_on s Old number) as (λ table. table_on s Old number ≡ table → table ≡ None)
+    [ None ↦ λ e. refl | Some table ↦ λ e. let some = side_among s stands Old number table e in let no : false ≡ true = sym none ∙ some in cc ] refl
+
+created_apart : (s : State) (name : List ℕ) (plan : Plan) → IsState s → IsState (started s name plan) → Each (λ number. table_on s Old number ≡ None) (created_in plan.fates)
+created_apart s name plan stands begun =
+    each_of (λ number none. not_old s number stands none) (created_in plan.fates) (apart (numbers_of s) (created_in plan.fates) (subst NumbersAscend (started_numbers s name plan) begun.numbers))
+
+created_stored : (frame : State) (name : List ℕ) (former : Option Former) (plan : Plan) (new : List StoredTable) → frame.lost_columns ≡ [] → (numbers : List ℕ) → Each (λ number. table_on frame Old number ≡ None) numbers
+    → Each (IsStoredTable (record { frame = begun_frame frame name plan; former = former; tables = new })) (map created_table numbers)
+created_stored frame name former plan new l numbers h = each_mapped created_table _ (λ (number : ℕ) none.
+    record { form = sym (ap (λ (old : Option Table). over_pair Paired (if is_some old then Old else New) (shared_of (lens_among plan.fates number) (table_numbered plan.schema number) old)) none); lost = none_lost frame number l; rows = tt }) numbers h
 
 -- ---- START
 
@@ -116,25 +183,56 @@ is_calm s m h =
     let steps = either_none (steps_left s) (option_or (active s.mode) (taken s m.name)) ops.1 in
     elim s.mode as (λ mode. active mode ≡ None → mode ≡ Calm) [ Calm ↦ λ h. refl | Both name schema fates ↦ λ h. cc ] (either_none (active s.mode) (taken s m.name) steps.1).0
 
+-- The numbers of the created tables fit 32 bits.
+planned_by : (found : Result Plan PlanFault) (plan : Plan) → ◌≡◌ {A = Result Plan Refusal} (elim found [ Ok plan ↦ Ok plan | Err fault ↦ Err (unplanned fault) ]) (Ok plan) → found ≡ Ok plan
+planned_by (Ok found) plan h = ap Ok (ok_same found plan h)
+planned_by (Err fault) plan h = cc
+
+pub numbers_fit : Below → (s : State) (m : Migration) (plan : Plan) → s.next_table ≤ 4294967295 → planned s m ≡ Ok plan → s.next_table + length (created_in plan.fates) ≤ 4294967295
+numbers_fit law s m plan small h = law.fit s.schema s.next_table m plan small (planned_by (plan_of s.schema s.next_table m) plan h)
+
 -- What START leaves.
 pub record IsStarted (frame : State) (former : Option Former) (tables : List StoredTable) (name : List ℕ) (plan : Plan) : Type 0 where
-  pub means : meant (begun_frame frame name plan) (map (begun_table frame plan) tables) ≡ started (meant frame tables) name plan
-  pub kept : AreKept (record { frame = begun_frame frame name plan; former = former; tables = map (begun_table frame plan) tables })
+  pub means : meaning (begun_parts name plan (record { frame = frame; former = former; tables = tables })) ≡ started (meant frame tables) name plan
+  pub kept : AreKept (begun_parts name plan (record { frame = frame; former = former; tables = tables }))
+
+begins : Below → (frame : State) (tables : List StoredTable) (name : List ℕ) (plan : Plan) → frame.lost_columns ≡ [] → IsState (started (meant frame tables) name plan) → Begins frame plan
+begins law frame tables name plan l begun =
+    let t = started (meant frame tables) name plan in
+    record {
+      lenses = λ number. law.lenses t name plan.schema plan.fates number begun refl;
+      pairs = λ number both e. both_pair law t number both begun e;
+      olds = λ number both e. (law.shared t number both begun e).old;
+      nothing_lost = l;
+    }
+
+started_means : Below → (frame : State) (tables : List StoredTable) (name : List ℕ) (plan : Plan) → Begins frame plan → Each (IsOwn frame tables) tables
+    → map table_meant (map (begun_table frame plan) tables ++ map created_table (created_in plan.fates)) ≡ map (machine_begun plan.fates) (map table_meant tables) ++ created_tables plan.fates
+started_means law frame tables name plan b own =
+    map-append table_meant (map (begun_table frame plan) tables) (map created_table (created_in plan.fates))
+    ∙ ap (λ (ts : List (ℕ × List Kept)). ts ++ map table_meant (map created_table (created_in plan.fates))) (tables_mean law frame tables plan b tables own)
+    ∙ ap (λ (ts : List (ℕ × List Kept)). map (machine_begun plan.fates) (map table_meant tables) ++ ts) (map-map table_meant created_table (created_in plan.fates))
 
 pub is_started : Below → (frame : State) (former : Option Former) (tables : List StoredTable) (m : Migration) (plan : Plan) → IsState (meant frame tables) → AreKept (record { frame = frame; former = former; tables = tables })
     → may_not_start (meant frame tables) m ≡ None → planned (meant frame tables) m ≡ Ok plan → IsStarted frame former tables m.name plan
 is_started law frame former tables m plan stands k may is =
     let s = meant frame tables in
-    let newer = (law.starts s m plan stands may is).mode in
+    let begun = law.starts s m plan stands may is in
+    let newer : NewerStands (started s m.name plan) m.name plan.schema plan.fates = begun.mode in
     let left : frame.left ≡ 0 = subst (λ by. StepsStand by s.left) newer.no_steps stands.steps in
     let none = stands.lost (ap (λ by. may_lose by s.left) newer.no_steps) in
-    let b : Begins frame plan = record { old = stands.version.schema_stands; new = newer.version.schema_stands; joined = newer.joined; nothing_lost = none.columns } in
-    let stored : Stored = record { frame = frame; former = former; tables = tables } in
-    let had = elim former as (λ former. HasFormer frame former → HasFormer (begun_frame frame m.name plan) former) [ None ↦ λ h. h | Some former ↦ λ h. (h.0, record { schema = h.1.schema; joined = h.1.joined }) ] k.former in
-    let own = all_own s former frame stored tables (λ number. no_form former frame number (is_calm s m may) left) stands.tables k.tables in
+    let b = begins law frame tables m.name plan none.columns begun in
+    let had = elim former as (λ former. HasFormer frame former → HasFormer (begun_frame frame m.name plan) former) [ None ↦ λ h. h | Some former ↦ λ h. let more = h.0 in absurd (omega (arith, more, left)) ] k.former in
+    let own = each_place (IsOwn frame tables) tables (λ at table e. own_at law frame former tables (is_calm s m may) left stands at table e (all_at (IsStoredTable (record { frame = frame; former = former; tables = tables })) tables at table k.tables e)) in
+    let new = map (begun_table frame plan) tables ++ map created_table (created_in plan.fates) in
     record {
-      means = ap (λ (ts : List (ℕ × List Kept)). record (begun_frame frame m.name plan) { tables = ts }) (tables_mean law frame tables plan b tables own);
-      kept = record { once = k.once; former = had; tables = tables_stored law frame m.name former tables plan (map (begun_table frame plan) tables) b tables own };
+      means = ap (λ (ts : List (ℕ × List Kept)). record (begun_frame frame m.name plan) { tables = ts }) (started_means law frame tables m.name plan b own);
+      kept = record {
+        once = k.once;
+        former = had;
+        tables = each_joined (IsStoredTable (begun_parts m.name plan (record { frame = frame; former = former; tables = tables }))) (map (begun_table frame plan) tables) (map created_table (created_in plan.fates)) (tables_stored law frame m.name former tables plan new b tables own)
+            (created_stored frame m.name former plan new none.columns (created_in plan.fates) (created_apart s m.name plan stands begun));
+      };
     }
 
 -- ---- the whole

@@ -4,7 +4,7 @@ use Rattle.roll_core.proofs.Words.{Greater, ap, refl, sym, subst, length, map, t
 use Rattle.roll_core.proofs.Words.{Value, Rows, Form, IsStoredRow, kept, stepped_row, stepped_values, StoredRow, meaning, ◌==◌, Option, Ok, inl, inr, ◌⊎◌, if◌then◌else◌, map-id, map-map, Calm, Both}
 use Rattle.roll_core.proofs.Words.{State, Complete, complete, stepped, table_without_loss, tidied, without_loss, ModeStands, StepsStand, Shared, Pair, IsPair, Own, Left, Trimmed, Former, meant}
 use Rattle.roll_core.proofs.Words.{AreKept, Goes, tidied_form, tidied_number, tidied_parts, tidied_table, HasFormer, IsStored, IsStoredTable, Stored, StoredTable, form_in, former_pair}
-use Rattle.roll_core.proofs.Words.{lost_columns_by, over_pair, pair_over, rows_meant, table_meant, Below}
+use Rattle.roll_core.proofs.Words.{lost_columns_by, option_map, over_pair, pair_over, rows_meant, table_meant, without_tables, Below, Old}
 use Rattle.roll_core.proofs.Words.finite
 use Rattle.roll_core.proofs.Words.kind
 use Rattle.roll_core.proofs.Runs.{former_by}
@@ -100,13 +100,13 @@ row_trimmed law pair is row h =
     (ap (λ (v : List Value). record { key = row.0; halves = record { old = Some v; new = None }; lost = 0 }) shown, law.trimmed pair row.1 is h)
 
 second_by : Below → (both : Option Shared) → ((shared : Shared) → both ≡ Some shared → IsPair (pair_over shared)) → (table : StoredTable)
-    → table.form ≡ over_pair Left both → Each (λ row. IsStoredRow table.form row.1) table.rows → IsNext without_loss (over_pair Trimmed both) table
-second_by law None is table f h = next_by Own without_loss refl (λ row h. (refl, tt)) table f h
+    → table.form ≡ over_pair Left Old both → Each (λ row. IsStoredRow table.form row.1) table.rows → IsNext without_loss (over_pair Trimmed Old both) table
+second_by law None is table f h = next_by (Own Old) without_loss refl (λ row h. (refl, tt)) table f h
 second_by law (Some both) is table f h = next_by (Left (pair_over both)) without_loss refl (row_trimmed law (pair_over both) (is both refl)) table f h
 
-third_by : (both : Option Shared) (table : StoredTable) → table.form ≡ over_pair Trimmed both → Each (λ row. IsStoredRow table.form row.1) table.rows
-    → IsNext (λ row. row) Own table
-third_by None table f h = next_by Own (λ row. row) refl (λ row h. (refl, tt)) table f h
+third_by : (both : Option Shared) (table : StoredTable) → table.form ≡ over_pair Trimmed Old both → Each (λ row. IsStoredRow table.form row.1) table.rows
+    → IsNext (λ row. row) (Own Old) table
+third_by None table f h = next_by (Own Old) (λ row. row) refl (λ row h. (refl, tt)) table f h
 third_by (Some both) table f h = next_by (Trimmed (pair_over both)) (λ row. row) refl (λ row h. (refl, tt)) table f h
 
 -- ---- all tables
@@ -129,27 +129,32 @@ next_stored wanted form new tables f l h = each_mapped tidied_table _
 
 -- ---- the steps
 
-two_form : (former : Option Former) (frame : State) (number : ℕ) → frame.mode ≡ Calm → frame.left ≡ 2 → form_in former frame number ≡ over_pair Left (former_pair former frame number)
+two_form : (former : Option Former) (frame : State) (number : ℕ) → frame.mode ≡ Calm → frame.left ≡ 2 → form_in former frame number ≡ over_pair Left Old (former_pair former frame number)
 two_form former frame number m l = rw (m, l) refl
 
-one_form : (former : Option Former) (frame : State) (number : ℕ) → frame.mode ≡ Calm → frame.left ≡ 1 → form_in former frame number ≡ over_pair Trimmed (former_pair former frame number)
+one_form : (former : Option Former) (frame : State) (number : ℕ) → frame.mode ≡ Calm → frame.left ≡ 1 → form_in former frame number ≡ over_pair Trimmed Old (former_pair former frame number)
 one_form former frame number m l = rw (m, l) refl
 
-pub no_form : (former : Option Former) (frame : State) (number : ℕ) → frame.mode ≡ Calm → frame.left ≡ 0 → form_in former frame number ≡ Own
+pub no_form : (former : Option Former) (frame : State) (number : ℕ) → frame.mode ≡ Calm → frame.left ≡ 0 → form_in former frame number ≡ Own Old
 no_form former frame number m l = rw (m, l) refl
+
+-- The versions' own tables are as they were.
+without_pair : (former : Option Former) (frame : State) (number : ℕ) → former_pair (option_map without_tables former) frame number ≡ former_pair former frame number
+without_pair None frame number = refl
+without_pair (Some former) frame number = refl
 
 -- What a step leaves.
 pub record IsTidied (two : Bool) (frame : State) (former : Option Former) (tables : List StoredTable) : Type 0 where
   pub means :
       meant (if two then record frame { left = 1; lost_columns = [] } else record frame { left = 0; kind = kind.Nothing }) (map tidied_table tables)
       ≡ (if two then record (meant frame tables) { left = 1; tables = map table_without_loss (map table_meant tables); lost_columns = [] } else record (meant frame tables) { left = 0; kind = kind.Nothing })
-  pub kept : AreKept (record { frame = if two then record frame { left = 1; lost_columns = [] } else record frame { left = 0; kind = kind.Nothing }; former = if two then former else None; tables = map tidied_table tables })
+  pub kept : AreKept (record { frame = if two then record frame { left = 1; lost_columns = [] } else record frame { left = 0; kind = kind.Nothing }; former = if two then option_map without_tables former else None; tables = map tidied_table tables })
 
 second : Below → (frame : State) (former : Option Former) (tables : List StoredTable) → IsStored (record { frame = frame; former = former; tables = tables })
     → frame.mode ≡ Calm → frame.left ≡ 2 → IsTidied true frame former tables
 second law frame former tables stored m l =
     let new = record frame { left = 1; lost_columns = [] } in
-    let form = λ (number : ℕ). over_pair Trimmed (former_pair former frame number) in
+    let form = λ (number : ℕ). over_pair Trimmed Old (former_pair former frame number) in
     let is_pair = λ (number : ℕ) (both : Shared) (e : former_pair former frame number ≡ Some both).
     (former_by frame former m stored.stands.version.schema_stands stored.former number both e).is_pair in
     let each : Each (λ table. IsNext without_loss (form table.number) table) tables = each_of
@@ -158,8 +163,10 @@ second law frame former tables stored m l =
       means = ap (λ (ts : List (ℕ × List Kept)). record new { tables = ts }) (next_mean without_loss form tables each);
       kept = record {
         once = stored.once;
-        former = elim former as (λ former. HasFormer frame former → HasFormer new former) [ None ↦ λ h. let no : 0 ≡ 2 = sym h ∙ l in absurd (omega (arith, no)) | Some former ↦ λ h. (omega arith, record { schema = h.1.schema; joined = h.1.joined }) ] stored.former;
-        tables = next_stored without_loss form (record { frame = new; former = former; tables = map tidied_table tables }) tables (λ number. sym (one_form former new number m refl)) refl each;
+        former = elim former as (λ former. HasFormer frame former → HasFormer new (option_map without_tables former))
+            [ None ↦ λ h. let no : 0 ≡ 2 = sym h ∙ l in absurd (omega (arith, no)) | Some former ↦ λ h. (omega arith, record { schema = h.1.schema; joined = h.1.joined; alone = tt; taken = λ e. refl }) ] stored.former;
+        tables = next_stored without_loss form (record { frame = new; former = option_map without_tables former; tables = map tidied_table tables }) tables
+            (λ number. ap (over_pair Trimmed Old) (sym (without_pair former frame number)) ∙ sym (one_form (option_map without_tables former) new number m refl)) refl each;
       };
     }
 
@@ -167,15 +174,15 @@ third : (frame : State) (former : Option Former) (tables : List StoredTable) →
     → frame.mode ≡ Calm → frame.kind ≡ kind.Complete → frame.left ≡ 1 → IsTidied false frame former tables
 third frame former tables stored m k l =
     let new = record frame { left = 0; kind = kind.Nothing } in
-    let each : Each (IsNext (λ row. row) Own) tables = each_of
+    let each : Each (IsNext (λ row. row) (Own Old)) tables = each_of
     (λ table h. third_by (former_pair former frame table.number) table (h.form ∙ one_form former frame table.number m l) h.rows) tables stored.tables in
     let nothing = stored.stands.lost (rw (k, l) refl) in
     record {
-      means = ap (λ (ts : List (ℕ × List Kept)). record new { tables = ts }) (next_mean (λ row. row) (λ number. Own) tables each ∙ same_rows (map table_meant tables));
+      means = ap (λ (ts : List (ℕ × List Kept)). record new { tables = ts }) (next_mean (λ row. row) (λ number. Own Old) tables each ∙ same_rows (map table_meant tables));
       kept = record {
         once = stored.once;
         former = refl;
-        tables = next_stored (λ row. row) (λ number. Own) (record { frame = new; former = None; tables = map tidied_table tables }) tables (λ number. sym (no_form None new number m refl)) nothing.columns each;
+        tables = next_stored (λ row. row) (λ number. Own Old) (record { frame = new; former = None; tables = map tidied_table tables }) tables (λ number. sym (no_form None new number m refl)) nothing.columns each;
       };
     }
 

@@ -3,7 +3,7 @@ use Rattle.roll_core.proofs.Words.{Runs, seen, parts, meaning, IsState, OwnTable
 use Rattle.roll_core.proofs.Words.{Because, NoMemory, Event, Reply, State, Nothing, Outcome, after_of, reply_to, wrote_by, StepsKeepLaws, StepsKeepStates, leaves_all, lost_columns_of, LaneStep, Step}
 use Rattle.roll_core.proofs.Words.{may_want, outcome_of, Former, Comes, RowsStored, SameForms, meant, reply_of, IsStored, IsStoredTable, Stored, StoredTable, form_in, lost_columns_by, CommandOutcome}
 use Rattle.roll_core.proofs.Words.{Done, as_outcome, complete, start, ComesTo, Cmd, Start, command_outcome, event_of, AreKept, Goes, nil_from_length, ◌++◌, None, int_cmp, Value, RunsReachLawful}
-use Rattle.roll_core.proofs.Words.{RunsReachStates, beginning, Rows, Own, first_stored}
+use Rattle.roll_core.proofs.Words.{RunsReachStates, beginning, Rows, Own, first_stored, Below, Old, OwnFormer, former_seen, option_map}
 use Rattle.roll_core.specs.declared.commands.Cmd.TheVariants.{Complete}
 use Rattle.roll_core.proofs.Words.finite
 use Rattle.roll_core.proofs.Runs.{runs_of}
@@ -60,23 +60,23 @@ still_stored states laws frame former old new event reply is step f r = record {
 
 -- ---- calls over tables that were lent
 
-pub runs_lent : (frame : State) (former : Option Former) (items lent : List OwnTable) → lent ≡ items → IsStored (parts frame former items) → Runs frame (map seen lent)
-runs_lent frame former items lent v is = runs_of (parts frame former lent) (subst (λ ts. IsStored (parts frame former ts)) (sym v) is)
+pub runs_lent : Below → (frame : State) (former : Option OwnFormer) (items lent : List OwnTable) → lent ≡ items → IsStored (parts frame former items) → Runs frame (map seen lent)
+runs_lent law frame former items lent v is = runs_of law (parts frame former lent) (subst (λ ts. IsStored (parts frame former ts)) (sym v) is)
 
-pub stored_lent : StepsKeepStates → StepsKeepLaws → (frame : State) (former : Option Former) (items lent new back : List OwnTable) → lent ≡ items → back ≡ new → IsStored (parts frame former items) → (event : Event) (reply : Reply)
+pub stored_lent : StepsKeepStates → StepsKeepLaws → (frame : State) (former : Option OwnFormer) (items lent new back : List OwnTable) → lent ≡ items → back ≡ new → IsStored (parts frame former items) → (event : Event) (reply : Reply)
     → (IsState (meant frame (map seen lent)) → Step (meant frame (map seen lent)) event reply (meant frame (map seen new))) → SameForms (map seen lent) (map seen new) → Each RowsStored (map seen new) → IsStored (parts frame former back)
 stored_lent states laws frame former items lent new back v b is event reply step f r =
     let was = subst (λ ts. IsStored (parts frame former ts)) (sym v) is in
-    subst (λ ts. IsStored (parts frame former ts)) (sym b) (still_stored states laws frame former (map seen lent) (map seen new) event reply was (step was.stands) f r)
+    subst (λ ts. IsStored (parts frame former ts)) (sym b) (still_stored states laws frame (option_map former_seen former) (map seen lent) (map seen new) event reply was (step was.stands) f r)
 
-pub step_lent : (R : State → Reply → State → Type 0) (frame : State) (former : Option Former) (items lent new back : List OwnTable) (stored : Stored) (reply told : Reply) → lent ≡ items → back ≡ new → parts frame former items ≡ stored → told ≡ reply
+pub step_lent : (R : State → Reply → State → Type 0) (frame : State) (former : Option OwnFormer) (items lent new back : List OwnTable) (stored : Stored) (reply told : Reply) → lent ≡ items → back ≡ new → parts frame former items ≡ stored → told ≡ reply
     → R (meant frame (map seen lent)) reply (meant frame (map seen new)) → R (meaning stored) told (meaning (parts frame former back))
 step_lent R frame former items lent new back stored reply told v b is t h =
     let means = λ (ts : List OwnTable). meaning (parts frame former ts) in
     subst (R (meaning stored) told) (ap means (sym b)) (subst (λ s. R s told (means new)) (ap means v ∙ ap meaning is) (subst (λ r. R (means lent) r (means new)) (sym t) h))
 
-pub same_lent : (frame : State) (former : Option Former) (items lent new back : List OwnTable) (stored : Stored) → lent ≡ items → back ≡ new → parts frame former items ≡ stored → map seen new ≡ map seen lent → parts frame former back ≡ stored
-same_lent frame former items lent new back stored v b is same = ap (parts frame former) b ∙ ap (λ ts. record { frame = frame; former = former; tables = ts }) same ∙ ap (parts frame former) v ∙ is
+pub same_lent : (frame : State) (former : Option OwnFormer) (items lent new back : List OwnTable) (stored : Stored) → lent ≡ items → back ≡ new → parts frame former items ≡ stored → map seen new ≡ map seen lent → parts frame former back ≡ stored
+same_lent frame former items lent new back stored v b is same = ap (parts frame former) b ∙ ap (λ ts. record { frame = frame; former = option_map former_seen former; tables = ts }) same ∙ ap (parts frame former) v ∙ is
 
 -- ---- steps
 
@@ -105,10 +105,10 @@ whole law old new cmd reply stored kept step = record {
 no_rows : (rows : Rows) → rows ≡ finite.empty → finite.entries rows ≡ []
 no_rows rows e = ap finite.entries e ∙ nil_from_length (finite.entries {X = List Value} {R = int_cmp} finite.empty) (sym (finite.len-entries finite.empty) ∙ finite.len-empty int_cmp (List Value))
 
-first_seen : (table : OwnTable) → table.number ≡ 1 → table.form ≡ Own → table.rows.rows ≡ finite.empty → ◌≡◌ {A = StoredTable} (seen table) (record { number = 1; form = Own; rows = [] })
+first_seen : (table : OwnTable) → table.number ≡ 1 → table.form ≡ Own Old → table.rows.rows ≡ finite.empty → ◌≡◌ {A = StoredTable} (seen table) (record { number = 1; form = Own Old; rows = [] })
 first_seen table n f r = rw (n, f, no_rows table.rows.rows r) refl
 
-pub first_is : (frame s : State) (items before : List OwnTable) (table : OwnTable) → s ≡ beginning → frame ≡ record s { tables = [] } → before ≡ [] → items ≡ before ++ (table ∷ []) → table.number ≡ 1 → table.form ≡ Own → table.rows.rows ≡ finite.empty → parts frame None items ≡ first_stored
+pub first_is : (frame s : State) (items before : List OwnTable) (table : OwnTable) → s ≡ beginning → frame ≡ record s { tables = [] } → before ≡ [] → items ≡ before ++ (table ∷ []) → table.number ≡ 1 → table.form ≡ Own Old → table.rows.rows ≡ finite.empty → parts frame None items ≡ first_stored
 first_is frame s items before table b f e i n w r =
     let is : frame ≡ record beginning { tables = [] } = f ∙ ap (λ (s : State). record s { tables = [] }) b in
     let all : items ≡ table ∷ [] = i ∙ ap (λ (ts : List OwnTable). ts ++ (table ∷ [])) e in

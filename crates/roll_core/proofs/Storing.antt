@@ -3,13 +3,13 @@ use Rattle.roll_core.proofs.Words.{halves_of, Shape, get_or_append_left, ◌≡�
 use Rattle.roll_core.proofs.Words.{length, map, take, append_assoc, arith, not, inl, zero-add, slice_index_or, filter, enumerate_from, zip, take_at, sum_by-cons, Value, Null, row_fits, and_false}
 use Rattle.roll_core.proofs.Words.{columns_fit, columns_long, row_long, value_weight, Cell, Carry, Make, Still, is_carry, Halves, Kept, lost_columns_in, lost_value, lost_weight, Pair, Agree, IsPair}
 use Rattle.roll_core.proofs.Words.{PairsAreLong, mark_value, new_half, new_view, old_view, shadow_values, stored_row, FilledBefore, LeftRowsKeep, left_row, left_value, Form, Own, Paired}
-use Rattle.roll_core.proofs.Words.{Left, Trimmed, IsStoredRow, kept, lost_of, stored_values, Below}
+use Rattle.roll_core.proofs.Words.{half, halves_on, unwrap_or, New, Old, Side, Left, Trimmed, IsStoredRow, kept, lost_of, stored_values, Below}
 
 -- ---- which rows can be stored in a form
 
 -- The pair of a form is one.
 abbrev pub FormStands : Form → Type 0
-FormStands Own = Unit {0}
+FormStands (Own side) = Unit {0}
 FormStands (Paired pair) = IsPair pair
 FormStands (Left pair) = IsPair pair
 FormStands (Trimmed pair) = IsPair pair
@@ -19,14 +19,14 @@ abbrev pub lost_over : Pair → Option (List Value) → ℕ
 lost_over pair None = lost_columns_in pair.lens
 lost_over pair (Some stored) = lost_of (Left pair) stored
 
--- The row has its standing version's half alone.
-pub record Alone (row : Kept) : Type 0 where
+-- The row has this side's half alone.
+pub record Alone (side : Side) (row : Kept) : Type 0 where
   pub values : List Value
-  pub halves : row.halves ≡ record { old = Some values; new = None }
+  pub halves : row.halves ≡ halves_on side values None
 
-pub record AloneFits (shape : Shape) (row : Kept) : Type 0 where
+pub record AloneFits (side : Side) (shape : Shape) (row : Kept) : Type 0 where
   pub values : List Value
-  pub halves : row.halves ≡ record { old = Some values; new = None }
+  pub halves : row.halves ≡ halves_on side values None
   pub fits : row_fits shape values ≡ true
 
 -- It has both halves, and these agree.
@@ -39,10 +39,10 @@ pub record Together (pair : Pair) (row : Kept) : Type 0 where
   pub agree : Agree pair old new
 
 abbrev pub Storable : Form → Option (List Value) → Kept → Type 0
-Storable Own before row = Alone row × (row.lost ≡ 0)
+Storable (Own side) before row = Alone side row × (row.lost ≡ 0)
 Storable (Paired pair) before row = Together pair row × (row.lost ≡ 0)
-Storable (Left pair) before row = AloneFits pair.new row × FilledBefore pair before × (row.lost ≡ lost_over pair before)
-Storable (Trimmed pair) before row = AloneFits pair.new row × (row.lost ≡ 0)
+Storable (Left pair) before row = AloneFits Old pair.new row × FilledBefore pair before × (row.lost ≡ lost_over pair before)
+Storable (Trimmed pair) before row = AloneFits Old pair.new row × (row.lost ≡ 0)
 
 -- ---- lost weights
 
@@ -111,8 +111,12 @@ stored_as form before row halves h made lost is =
       stored = subst (IsStoredRow form) (sym values) is;
     }
 
+own_half : (side : Side) (values : List Value) → halves_on side (unwrap_or (half side (halves_on side values None)) []) None ≡ halves_on side values None
+own_half Old values = refl
+own_half New values = refl
+
 pub stores_row : Below → (form : Form) (before : Option (List Value)) (row : Kept) → FormStands form → Storable form before row → StoresRow form before row
-stores_row law Own before row p s = stored_as Own before row (record { old = Some s.0.values; new = None }) s.0.halves refl (sym s.1) tt
+stores_row law (Own side) before row p s = stored_as (Own side) before row (halves_on side s.0.values None) s.0.halves (own_half side s.0.values) (sym s.1) tt
 stores_row law (Paired pair) before row p s =
     let t = s.0 in
     let stored = stored_row pair t.old t.new false in

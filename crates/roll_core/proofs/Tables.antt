@@ -4,7 +4,7 @@ use Rattle.roll_core.proofs.Words.{◌≡◌, ◌≤◌, ◌<◌, ◌==◌, ◌�
 use Rattle.roll_core.proofs.Words.{option_and_then, le_of_eq, slice_get, slice_index_or, slice_set, sum_by, AllByRecursion, list_all, list_any, option_map_or, nat_tests, length-map, sum_by-cons}
 use Rattle.roll_core.proofs.Words.{Change, both, some_same, Table, table_numbered, Kept, Site, number_of, Calm, Both, State, numbers_of, IsState, ModeStands, NumbersAscend, newer_schema, rows_of}
 use Rattle.roll_core.proofs.Words.{table_on, with_rows, New, Old, Side, OwnTable, IsSite, Runs, meant, numbers_in, stored_count, changed, with_changes, own_count, seen, StoredTable, kept, rows_meant}
-use Rattle.roll_core.proofs.Words.{table_meant}
+use Rattle.roll_core.proofs.Words.{◌++◌, filter, other, table_meant}
 use Rattle.roll_core.proofs.Words.finite
 
 -- ---- elements
@@ -39,6 +39,17 @@ pub each_mapped : {X Y : Type 0} {P : X → Type 0} (f : X → Y) (Q : Y → Typ
 each_mapped f Q h [] p = tt
 each_mapped f Q h (x ∷ xs) p = (h x p.0, each_mapped f Q h xs p.1)
 
+pub each_joined : {X : Type 0} (P : X → Type 0) (xs ys : List X) → AllByRecursion P xs → AllByRecursion P ys → AllByRecursion P (xs ++ ys)
+each_joined P [] ys p q = q
+each_joined P (x ∷ xs) ys p q = (p.0, each_joined P xs ys p.1 q)
+
+-- What holds of each holds of those that pass a test, where they do.
+pub each_passing : {X : Type 0} {P Q : X → Type 0} (test : X → Bool) → ((x : X) → P x → test x ≡ true → Q x) → (xs : List X) → AllByRecursion P xs → AllByRecursion Q (filter test xs)
+each_passing test h [] p = tt
+each_passing {Q} test h (x ∷ xs) p =
+    let rest = each_passing test h xs p.1 in
+    elim (test x) as (λ b. test x ≡ b → AllByRecursion Q (if b then x ∷ filter test xs else filter test xs)) [ true ↦ λ e. (h x p.0 e, rest) | false ↦ λ e. rest ] refl
+
 -- The table at a place that was read.
 pub record IsRead (tables : List StoredTable) (at number : ℕ) (table : StoredTable) : Type 0 where
   pub here : slice_get tables at ≡ Some table
@@ -58,7 +69,7 @@ numbers_of-meant frame (table ∷ tables) = ap (λ rest. table.number ∷ rest) 
 pub ascend : (frame : State) (tables : List StoredTable) → IsState (meant frame tables) → NumbersAscend (numbers_in tables)
 ascend frame tables stands = subst NumbersAscend (numbers_of-meant frame tables) stands.numbers
 
-rest_ascends : (number : ℕ) (numbers : List ℕ) → NumbersAscend (number ∷ numbers) → NumbersAscend numbers
+pub rest_ascends : (number : ℕ) (numbers : List ℕ) → NumbersAscend (number ∷ numbers) → NumbersAscend numbers
 rest_ascends number [] h = tt
 rest_ascends number (next ∷ numbers) h = h.1
 
@@ -85,7 +96,7 @@ among numbers number (first ∷ tables) table h e =
       | false ↦ λ k e. among numbers number tables table parts.1 e
     ] refl e
 
-side_among : (s : State) → IsState s → (side : Side) (number : ℕ) (table : Table) → table_on s side number ≡ Some table → list_any (nat_eq number) (numbers_of s) ≡ true
+pub side_among : (s : State) → IsState s → (side : Side) (number : ℕ) (table : Table) → table_on s side number ≡ Some table → list_any (nat_eq number) (numbers_of s) ≡ true
 side_among s stands Old number table e = among (numbers_of s) number s.schema.tables table stands.version.rows e
 side_among s stands New number table e =
     elim s.mode as (λ mode. ModeStands s mode → option_and_then (λ schema. table_numbered schema number) (newer_schema mode) ≡ Some table → list_any (nat_eq number) (numbers_of s) ≡ true)
@@ -177,7 +188,7 @@ with_rows-set frame tables at number rows table new stands r is =
     ap (λ (ts : List (ℕ × List Kept)). record frame { tables = ts }) (with_set number rows tables at table new (ascend frame tables stands) r.here r.numbered is)
 
 pub suits_meant : (frame : State) (tables : List StoredTable) (number : ℕ) (form : Form) → FormSuits frame number form → FormSuits (meant frame tables) number form
-suits_meant frame tables number Own h = h
+suits_meant frame tables number (Own side) h = on_meant frame tables (other side) number ∙ h
 suits_meant frame tables number (Paired pair) h = record { both = h.both; shares = h.shares; over = h.over; is_pair = h.is_pair }
 suits_meant frame tables number (Left pair) h = record { calm = h.calm; is_pair = h.is_pair; shape = h.shape }
 suits_meant frame tables number (Trimmed pair) h = record { calm = h.calm; is_pair = h.is_pair; shape = h.shape }

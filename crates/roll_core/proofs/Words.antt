@@ -2,7 +2,7 @@
 pub use Rattle.std.proofs.Common.{Bool, Bor, Equal, Err, Greater, Less, List, None, Ok, OnErr, Option, Ordering, Result, Some, [], add-one, ap, append_assoc, arith, cond, drop, false, filter, find, if◌then◌else◌, inl, inr, int_cmp, int_eq, is_some, le_of_eq, length, map, min, nat_eq, nat_lt, not, option_and_then, option_map, refl, rules, subst, suc, sym, take, true, zero, zero-add, ℕ, ℤ, ◌&&◌, ◌++◌, ◌+◌, ◌-◌, ◌<◌, ◌==◌, ◌^◌, ◌||◌, ◌∙◌, ◌∷◌, ◌≡◌, ◌≤◌, ◌⊎◌}
 pub use Rattle.std.proofs.lemmas.Bool.Decides.{Decides-int_eq, nat_tests}
 pub use Rattle.std.proofs.lemmas.Grind.{common_steps}
-pub use Rattle.std.proofs.lemmas.List.{take_all, get_or-take, get_or_append_left, length-map, map-id, map-set, nil_from_length, take_at}
+pub use Rattle.std.proofs.lemmas.List.{take_all, get_or-take, get_or_append_left, length-map, map-append, map-id, map-set, nil_from_length, take_at}
 pub use Rattle.std.proofs.lemmas.Option.{slice_get-get_or, slice_get-map, slice_get_within}
 pub use Rattle.std.proofs.lemmas.Simd.{map-map}
 pub use Rattle.std.proofs.lemmas.List.Sums.{sum_by-cons}
@@ -12,13 +12,13 @@ pub use Rattle.std.specs.FinMap.Entries.{below_all, by_order, by_order as picked
 pub use Rattle.std.specs.List.{AllByRecursion, AllByRecursion as Each, cons_option, enumerate_from, filter_map, list_all, list_any, zip}
 pub use Rattle.std.specs.Option.{ok_or, option_copied, option_map_or, option_or}
 pub use Rattle.std.specs.Ordering.{eq_by_cmp, is_eq, is_lt, match_ordering, ordering_reverse}
-pub use Rattle.std.specs.Prelude.{IfOk, T, slice_get, slice_index_or, slice_set, sum_by}
+pub use Rattle.std.specs.Prelude.{IfOk, T, unwrap_or, vec_capacity, vec_len, slice_get, slice_index_or, slice_set, sum_by}
 pub use Rattle.machine.specs.Done.{CommandOutcome, Done, Nothing, Outcome, Started, after_of, answered, as_outcome, reply_to, wrote_by}
 pub use Rattle.machine.specs.Follows.{goes_on_filling}
 pub use Rattle.machine.specs.Laws.{RowsOnSites, RowsStandBy, RunsReachLawful, RunsReachStates, StepsKeepLaws, StepsKeepStates, leaves_all}
-pub use Rattle.machine.specs.Migrate.{active, bad_batch, batch, begun_table as machine_begun, complete, completed, completed_row, fill_keys, finish, first_of, has_heavy, has_missing, inactive, least_batch, least_fill, lost_columns_in, lost_in_table, lost_value, lost_weight, may_not_fill, may_not_start, not_valid, numbers_of, planned, refused_batch, start, start_planned, start_read, started, stepped, steps_left, table_without_loss, taken, tidied, too_heavy, unfilled_tables, unrun, without_loss}
+pub use Rattle.machine.specs.Migrate.{active, bad_batch, batch, begun_table as machine_begun, complete, completed, completed_row, completed_tables, created_tables, fill_keys, finish, first_of, has_heavy, has_missing, inactive, least_batch, least_fill, lost_columns_in, lost_in_table, lost_value, lost_weight, may_not_fill, may_not_start, not_valid, numbers_of, planned, refused_batch, start, start_planned, start_read, started, stepped, steps_left, table_without_loss, taken, tidied, too_heavy, unfilled_tables, unrun, without_loss}
 pub use Rattle.machine.specs.Sites.{BesideStands, ChangeAgrees, ChangeStands, HalvesAgree, JobStands, OfPut, PairStands, SiteRow, SiteStands, TableStands, may_miss_beside, new_table_by, table_by}
-pub use Rattle.machine.specs.Standing.{Ascends, HalfStands, IsState, ModeStands, NewStands, NewerStands, NumbersAscend, RowsStand, StepsStand, TablesStand, may_lose}
+pub use Rattle.machine.specs.Standing.{is_known, Ascends, HalfStands, IsState, ModeStands, NewStands, NewerStands, NumbersAscend, RowsStand, StepsStand, TablesStand, may_lose}
 pub use Rattle.machine.specs.State.{Found, Shared, beginning, beside_on, filling_site, lens_among, lens_between, lost_columns_of, missing_keys, newer_schema, row_count, rows_of, shared, site_of, table_of, table_on, table_through, with_rows}
 pub use Rattle.machine.specs.Statement.{Begun, Sets, Shows, Writes, begun, changed as changed_by, error_reply, finished, long_insert, max_rows, no_table, on_table, too_many_rows, writes, written_reply}
 pub use Rattle.machine.specs.Step.{ComesTo, LaneStep, Step, may_want, outcome_of}
@@ -33,6 +33,7 @@ pub use Rattle.machine.specs.declared.states.Mode.TheVariants.{Both, Calm}
 pub use Rattle.machine.specs.declared.states.State.{State}
 pub use Rattle.mig_lens.specs.Laws.{IsSchema, Joins}
 pub use Rattle.mig_lens.specs.Layout.{has_mark}
+pub use Rattle.mig_lens.specs.Plan.{created_in}
 pub use Rattle.mig_lens.specs.Lens.{IsWellFormed, fits, is_carried_from, is_carry}
 pub use Rattle.mig_lens.specs.declared.columns.Cell.TheVariants.{Carry, Make, Still}
 pub use Rattle.mig_lens.specs.declared.faults.Refusal.TheVariants.{NotFilled, Unfinished}
@@ -63,20 +64,20 @@ pub use Rattle.trigger_pair.specs.Laws.{Agree, BeginningLeaves, BegunRowsHold, I
 pub use Rattle.trigger_pair.specs.Rows.{IsBegunRow, IsFilledRow, IsPairedRow}
 pub use Rattle.trigger_pair.specs.Stored.{is_marked, mark_value, new_half, new_view, old_view, places, shadow_values, stored_row}
 pub use Rattle.trigger_pair.specs.declared.pairs.Pair.{Pair}
-pub use Rattle.roll_core.specs.Batch.{Fills, FillsThrough, FirstUnfilled, batch_at, batch_changes, changes_at, is_unfilled, number_at}
+pub use Rattle.roll_core.specs.Batch.{Fills, FillsThrough, FirstUnfilled, batch_at, batch_changes, changes_at, is_paired, is_unfilled, number_at}
 pub use Rattle.roll_core.specs.Below.{Below}
 pub use Rattle.roll_core.specs.Changing.{changed, put_all, put_stored, rows_after, stored_change, with_changes}
 pub use Rattle.roll_core.specs.Engine.{command_outcome, event_of, first_stored}
 pub use Rattle.roll_core.specs.Running.{Comes, FormSuits, IsSite, IsStatement, LeftBy, RowsStored, Runs, SameForms, accepted, job_reach, meant, numbers_in, refused_all, reply_of, stored_count, too_many, too_many_error}
-pub use Rattle.roll_core.specs.Seen.{parts, row_count as own_count, seen}
-pub use Rattle.roll_core.specs.Stepping.{AreKept, AreRun, Goes, begun_parts, begun_form, begun_frame, begun_table, former_by, former_of, invalid_in, left_by, left_form, left_frame, left_parts, left_table, lost_by, lost_columns, may_not_complete, not_filled_in, startable, stepped_row, stepped_values, tidied_form, tidied_number, tidied_parts, tidied_table}
-pub use Rattle.roll_core.specs.Store.{halves_of, FormerStands, HasFormer, IsStored, IsStoredRow, IsStoredTable, Stored, StoredRow, StoredTable, both_again, calm_form, form_in, former_pair, kept, lost_columns_by, lost_of, meaning, over_pair, pair_over, rows_meant, stored_values, table_meant}
+pub use Rattle.roll_core.specs.Seen.{former_seen, parts, row_count as own_count, seen}
+pub use Rattle.roll_core.specs.Stepping.{AreKept, AreRun, Goes, begun_parts, begun_form, begun_frame, begun_table, created_table, former_by, former_of, goes, shared_by, stays, without_tables, invalid_in, left_by, left_form, left_frame, left_parts, left_table, lost_by, lost_columns, may_not_complete, not_filled_in, startable, stepped_row, stepped_values, tidied_form, tidied_number, tidied_parts, tidied_table}
+pub use Rattle.roll_core.specs.Store.{halves_of, Former, FormerStands, HasFormer, IsAlone, IsStored, IsStoredRow, IsStoredTable, Stored, StoredRow, StoredTable, both_again, calm_form, form_in, former_pair, kept, lost_columns_by, lost_of, meaning, over_pair, pair_over, rows_meant, side_alone, stored_values, table_meant}
 pub use Rattle.roll_core.specs.declared.changing.StoredChange.{StoredChange}
 pub use Rattle.roll_core.specs.declared.commands.Cmd.{Cmd}
 pub use Rattle.roll_core.specs.declared.commands.Cmd.TheVariants.{Start}
 pub use Rattle.roll_core.specs.declared.forms.Form.{Form}
 pub use Rattle.roll_core.specs.declared.forms.Form.TheVariants.{Left, Own, Paired, Trimmed}
-pub use Rattle.roll_core.specs.declared.store.Former.{Former}
+pub use Rattle.roll_core.specs.declared.store.Former.{Former as OwnFormer}
 pub use Rattle.roll_core.specs.declared.store.StoredTable.{StoredTable as OwnTable}
 pub use Rattle.std.specs.FinMap as finite
 pub use Rattle.row_rules.specs.declared.kinds.Job.TheVariants as job

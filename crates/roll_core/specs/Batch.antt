@@ -1,5 +1,5 @@
 -- Batches, as they are looked at before anything is put.
-use Rattle.std.specs.Prelude.{◌≡◌, ◌<◌, ℕ, Bool, false, List, Option, Some, None, Result, Ok, Err, find, length, map, slice_get, take}
+use Rattle.std.specs.Prelude.{◌≡◌, ◌<◌, ◌&&◌, ℕ, Bool, true, false, List, Option, Some, None, Result, Ok, Err, find, length, map, slice_get, take}
 use Rattle.std.specs.List.{AllByRecursion, filter, list_any}
 use Rattle.std.specs.Option.{option_and_then, option_map}
 use Rattle.sql_base.specs.Outcome.{and_then}
@@ -19,15 +19,24 @@ use Rattle.machine.specs.Done.{CommandOutcome, as_outcome}
 use Rattle.machine.specs.Follows.{goes_on_filling}
 use Rattle.machine.specs.Migrate.{least_batch, refused_batch}
 use Rattle.machine.specs.Statement.{written_reply}
+use Rattle.roll_core.specs.declared.forms.Form.{Form}
+use Rattle.roll_core.specs.declared.forms.Form.TheVariants.{Own, Paired, Left, Trimmed}
 use Rattle.roll_core.specs.declared.store.StoredTable.{StoredTable as OwnTable}
 use Rattle.roll_core.specs.Changing.{with_changes}
 use Rattle.roll_core.specs.Running.{Comes, RowsStored, SameForms, meant, reply_of}
 use Rattle.roll_core.specs.Seen.{seen}
 use Rattle.roll_core.specs.Store.{StoredTable, rows_meant}
 
--- A row of the table is still to be filled.
+-- Both versions have the table.
+abbrev pub is_paired : Form → Bool
+is_paired (Own side) = false
+is_paired (Paired pair) = true
+is_paired (Left pair) = false
+is_paired (Trimmed pair) = false
+
+-- A row of the table is still to be filled. (One version alone has nothing to fill.)
 abbrev pub is_unfilled : StoredTable → Bool
-is_unfilled table = list_any is_missing (rows_meant table)
+is_unfilled table = is_paired table.form && list_any is_missing (rows_meant table)
 
 -- The place of the first such table, where there is one.
 abbrev pub FirstUnfilled : List StoredTable → Option ℕ → Type 0

@@ -1,6 +1,7 @@
 -- The laws of the layers below that the engine's promises rest on.
 use Rattle.row_rules.specs.InReach.{StandingShowKeys}
-use Rattle.machine.specs.Laws.{ChangesAgree, ChangesKeep, FilledRowsHaveHalves, FillingStands, RowsOnSites, RowsStandBy, SharedStands, ShowsStand, StartsStand, TablesHaveTheirRows, TablesStay, WritesStand}
+use Rattle.machine.specs.Laws.{BothAreShared, ChangesAgree, ChangesKeep, FilledRowsHaveHalves, FillingStands, RowsOnSites, RowsStandBy, SharedByLenses, SharedStands, ShowsStand, StartsStand, TablesAreKnown, TablesHaveTheirRows, WritesStand}
+use Rattle.mig_plan.specs.Laws.{PlannedNumbersFit}
 use Rattle.row_store.specs.Laws.{RemovedIsLeftOut}
 use Rattle.trigger_pair.specs.Laws.{BeginningLeaves, BegunRowsHold, FilledRowsAreLong, PairsAreLong, StoredRowsHold, UnfilledRowsAreBegun}
 use Rattle.phase_steps.specs.Laws.{LeftRowsAreFilled, LeftRowsKeep, LeftRowsShow, TrimmingKeepsView, TrimmingLeavesTrimmed}
@@ -8,8 +9,12 @@ use Rattle.phase_steps.specs.Laws.{LeftRowsAreFilled, LeftRowsKeep, LeftRowsShow
 pub record Below : Type 0 where
   -- migrations
   pub starts : StartsStand
-  pub stay : TablesStay
+  pub fit : PlannedNumbersFit
   pub halves : FilledRowsHaveHalves
+  -- the versions' tables
+  pub known : TablesAreKnown
+  pub both : BothAreShared
+  pub lenses : SharedByLenses
   -- sites, and what is done to their rows
   pub writes : WritesStand
   pub shows : ShowsStand

@@ -8,6 +8,7 @@ use Rattle.machine.specs.Migrate as migrate
 use Rattle.machine.specs.State.{beginning}
 use Rattle.roll_core.specs.declared.commands.Cmd.{Cmd}
 use Rattle.roll_core.specs.declared.commands.Cmd.TheVariants.{Start, Complete}
+use Rattle.mig_lens.specs.declared.columns.Side.TheVariants.{Old}
 use Rattle.roll_core.specs.declared.forms.Form.TheVariants.{Own}
 use Rattle.roll_core.specs.Store.{Stored}
 
@@ -26,5 +27,5 @@ abbrev pub first_stored : Stored
 first_stored = record {
   frame = record beginning { tables = [] };
   former = None;
-  tables = record { number = 1; form = Own; rows = [] } ∷ [];
+  tables = record { number = 1; form = Own Old; rows = [] } ∷ [];
 }

@@ -13,7 +13,7 @@ use Rattle.row_rules.specs.declared.kinds.Job.{Job}
 use Rattle.row_rules.specs.declared.kinds.Job.TheVariants as job
 use Rattle.row_rules.specs.declared.stops.Stop.{Stop}
 use Rattle.row_rules.specs.declared.stops.Stop.TheVariants.{Because, NoMemory}
-use Rattle.row_rules.specs.Site.{Site, shape_of}
+use Rattle.row_rules.specs.Site.{Site, other, shape_of}
 use Rattle.mig_lens.specs.Plan.{Table}
 use Rattle.machine.specs.declared.events.Reply.{Reply}
 use Rattle.machine.specs.declared.states.Mode.TheVariants.{Calm}
@@ -53,8 +53,9 @@ pub record LeftBy (s : State) (number : ℕ) (pair : Pair) : Type 0 where
   pub is_pair : IsPair pair
   pub shape : (table : Table) → table_on s Old number ≡ Some table → pair.new ≡ shape_of table
 
+-- (What one version has alone the other one doesn't have.)
 abbrev pub FormSuits : State → ℕ → Form → Type 0
-FormSuits s number Own = s.mode ≡ Calm
+FormSuits s number (Own side) = table_on s (other side) number ≡ None
 FormSuits s number (Paired pair) = PairedBy s number pair
 FormSuits s number (Left pair) = LeftBy s number pair
 FormSuits s number (Trimmed pair) = LeftBy s number pair

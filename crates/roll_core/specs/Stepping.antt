@@ -1,6 +1,6 @@
 -- What the steps of a migration leave of what is stored, and what its commands are promised.
-use Rattle.std.specs.Prelude.{◌≡◌, false, ℕ, List, [], Option, None, Some, Result, Ok, Err, map, ◌==◌, if◌then◌else◌}
-use Rattle.std.specs.List.{AllByRecursion, filter_map}
+use Rattle.std.specs.Prelude.{◌≡◌, false, ℕ, ◌+◌, Bool, List, [], ◌++◌, Option, None, Some, Result, Ok, Err, is_some, length, map, not, ◌==◌, if◌then◌else◌}
+use Rattle.std.specs.List.{AllByRecursion, filter, filter_map}
 use Rattle.std.specs.Option.{option_and_then, option_map, option_or}
 use Rattle.sql_base.specs.Outcome.{and_then}
 use Rattle.sql_base.specs.declared.values.Value.{Value}
@@ -11,7 +11,7 @@ use Rattle.mig_lens.specs.declared.faults.Refusal.TheVariants.{NotFilled}
 use Rattle.mig_lens.specs.declared.migrations.Migration.{Migration}
 use Rattle.mig_lens.specs.declared.plans.Fate.{Fate}
 use Rattle.mig_lens.specs.declared.plans.Plan.{Plan}
-use Rattle.mig_lens.specs.Plan.{table_numbered}
+use Rattle.mig_lens.specs.Plan.{created_in, table_numbered}
 use Rattle.row_rules.specs.Outcome.{first_some, guarded, without}
 use Rattle.row_rules.specs.Rows.{missing_keys}
 use Rattle.row_rules.specs.Site.{name_of}
@@ -29,21 +29,20 @@ use Rattle.machine.specs.State.{Shared, lens_among, shared, table_on}
 use Rattle.machine.specs.Laws.{leaves_all}
 use Rattle.machine.specs.declared.events.Asked.{Asked}
 use Rattle.machine.specs.declared.events.Asked.TheVariants.{Read as Migrates, Refused as NotRead}
-use Rattle.machine.specs.Words.{Cause, New}
+use Rattle.machine.specs.Words.{Cause, New, Old}
 use Rattle.roll_core.specs.declared.commands.Cmd.{Cmd}
 use Rattle.roll_core.specs.declared.commands.Cmd.TheVariants.{Start, Complete}
 use Rattle.trigger_pair.specs.Stored.{begun}
 use Rattle.phase_steps.specs.Rows.{trimmed, trimmed_view}
 use Rattle.roll_core.specs.declared.forms.Form.{Form}
 use Rattle.roll_core.specs.declared.forms.Form.TheVariants.{Own, Paired, Left, Trimmed}
-use Rattle.roll_core.specs.declared.store.Former.{Former}
-use Rattle.roll_core.specs.Store.{HasFormer, IsStored, IsStoredTable, Stored, StoredRow, StoredTable, meaning, over_pair, rows_meant, table_meant}
+use Rattle.roll_core.specs.Store.{Former, HasFormer, IsStored, IsStoredTable, Stored, StoredRow, StoredTable, meaning, over_pair, rows_meant, table_meant}
 
 -- ---- rows
 
 -- The values that a step stores of a row. START, which leads to the pair's layout, stores it as the row is to begin with. The second step of completing, which leads from that layout, takes the old columns that are lost and the mark; the third orders the places.
 abbrev pub stepped_values : Form → List Value → List Value
-stepped_values Own values = values
+stepped_values (Own side) values = values
 stepped_values (Paired pair) values = begun pair values
 stepped_values (Left pair) values = trimmed pair.lens values
 stepped_values (Trimmed pair) values = trimmed_view pair.lens values
@@ -61,7 +60,7 @@ shared_by frame plan number =
 
 -- A table as this plan begins with it: in its pair's layout, where both versions have it.
 abbrev pub begun_form : State → Plan → ℕ → Form
-begun_form frame plan number = over_pair Paired (shared_by frame plan number)
+begun_form frame plan number = over_pair Paired Old (shared_by frame plan number)
 
 abbrev pub begun_table : State → Plan → StoredTable → StoredTable
 begun_table frame plan table = record {
@@ -70,9 +69,13 @@ begun_table frame plan table = record {
   rows = map (stepped_row (begun_form frame plan table.number)) table.rows;
 }
 
--- The first step of completing leaves the rows as they are stored.
+-- A table that the plan creates begins without a row, and the new version alone has it.
+abbrev pub created_table : ℕ → StoredTable
+created_table number = record { number = number; form = Own New; rows = [] }
+
+-- The first step of completing leaves the rows as they are stored. The new version is the old side from then on.
 abbrev pub left_form : Form → Form
-left_form Own = Own
+left_form (Own side) = Own Old
 left_form (Paired pair) = Left pair
 left_form (Left pair) = Left pair
 left_form (Trimmed pair) = Trimmed pair
@@ -82,10 +85,10 @@ left_table table = record table { form = left_form table.form }
 
 -- The next form: after the second step the places are left that stay, and after the third one the version's own columns.
 abbrev pub tidied_form : Form → Form
-tidied_form Own = Own
+tidied_form (Own side) = Own side
 tidied_form (Paired pair) = Paired pair
 tidied_form (Left pair) = Trimmed pair
-tidied_form (Trimmed pair) = Own
+tidied_form (Trimmed pair) = Own Old
 
 abbrev pub tidied_table : StoredTable → StoredTable
 tidied_table table = record { number = table.number; form = tidied_form table.form; rows = map (stepped_row table.form) table.rows }
@@ -102,7 +105,10 @@ startable s m = guarded (may_not_start s m) (and_then (planned s m) (λ plan. wi
 
 -- The frame, once a plan is begun.
 abbrev pub begun_frame : State → List ℕ → Plan → State
-begun_frame frame name plan = record frame { mode = Both name plan.schema plan.fates }
+begun_frame frame name plan = record frame {
+  mode = Both name plan.schema plan.fates;
+  next_table = frame.next_table + length (created_in plan.fates);
+}
 
 -- ---- the first step of completing
 
@@ -131,13 +137,21 @@ abbrev pub lost_columns : Mode → List StoredTable → List (ℕ × ℕ)
 lost_columns Calm tables = []
 lost_columns (Both name schema fates) tables = filter_map (lost_by fates) tables
 
--- What is kept of the version that goes.
-abbrev pub former_by : State → Mode → Option Former
-former_by frame Calm = None
-former_by frame (Both name schema fates) = Some (record { version = frame.version; schema = frame.schema; fates = fates })
+-- The tables that the new version has stay, and those that the old one alone has go with it.
+abbrev pub stays : State → StoredTable → Bool
+stays frame table = is_some (table_on frame New table.number)
 
-abbrev pub former_of : State → Option Former
-former_of frame = former_by frame frame.mode
+abbrev pub goes : State → StoredTable → Bool
+goes frame table = not (stays frame table)
+
+-- What is kept of the version that goes, with these tables.
+abbrev pub former_by : State → Mode → List StoredTable → Option Former
+former_by frame Calm tables = None
+former_by frame (Both name schema fates) tables =
+    Some (record { version = frame.version; schema = frame.schema; fates = fates; tables = tables })
+
+abbrev pub former_of : Stored → Option Former
+former_of stored = former_by stored.frame stored.frame.mode (filter (goes stored.frame) stored.tables)
 
 -- ---- the other steps
 
@@ -146,8 +160,12 @@ abbrev pub tidied_frame : State → State
 tidied_frame frame =
     if frame.left == 2 then record frame { left = 1; lost_columns = [] } else record frame { left = 0; kind = kind.Nothing }
 
+-- The second step takes the rows of the tables that the version that is gone had alone, and the third all that was kept of it.
+abbrev pub without_tables : Former → Former
+without_tables former = record former { tables = [] }
+
 abbrev pub tidied_former : State → Option Former → Option Former
-tidied_former frame former = if frame.left == 2 then former else None
+tidied_former frame former = if frame.left == 2 then option_map without_tables former else None
 
 abbrev pub tidied_number : State → ℕ
 tidied_number frame = if frame.left == 2 then 2 else 3
@@ -158,15 +176,15 @@ abbrev pub begun_parts : List ℕ → Plan → Stored → Stored
 begun_parts name plan stored = record {
   frame = begun_frame stored.frame name plan;
   former = stored.former;
-  tables = map (begun_table stored.frame plan) stored.tables;
+  tables = map (begun_table stored.frame plan) stored.tables ++ map created_table (created_in plan.fates);
 }
 
 -- After the first step of completing.
 abbrev pub left_parts : Stored → Stored
 left_parts stored = record {
   frame = left_frame (lost_columns stored.frame.mode stored.tables) stored.frame;
-  former = former_of stored.frame;
-  tables = map left_table stored.tables;
+  former = former_of stored;
+  tables = map left_table (filter (stays stored.frame) stored.tables);
 }
 
 -- After the second or the third.

@@ -1,31 +1,54 @@
 -- What the engine stores, and what that means as a state of the machine.
 --
--- The engine keeps a frame, which is a state without its rows; from the first step of completing until the last one what the version that is gone had; and per table its stored rows by ascending key, in the form in which they are stored. While one version has a table and no step is left, a stored row is the version's row. From START on a table that both versions have keeps its rows by the pair's layout: the old columns, the shadow places, the mark. The first step of completing takes the old version away and leaves the rows; the second takes the old columns that are lost, and the mark; the third orders the places. So a row is stored once, whatever number of versions stand, and each version's view selects its half.
-use Rattle.std.specs.Prelude.{◌≡◌, ◌≤◌, ℕ, ℤ, List, [], ◌==◌, false, Option, Some, None, map, unwrap_or, if◌then◌else◌}
+-- The engine keeps a frame, which is a state without its rows; from the first step of completing until the last one what the version that is gone had; and per table its stored rows by ascending key, in the form in which they are stored. Where one version alone has a table, and no step is left, a stored row is that version's row. From START on a table that both versions have keeps its rows by the pair's layout: the old columns, the shadow places, the mark. The first step of completing takes the old version away and leaves the rows; the second takes the old columns that are lost, and the mark; the third orders the places. The rows of a table that the old version alone had stay with what is kept of it until the second step, and no version shows them. So a row is stored once, whatever number of versions stand, and each version's view selects its half.
+use Rattle.std.specs.Prelude.{◌≡◌, ◌≤◌, ℕ, ℤ, List, [], ◌==◌, false, Option, Some, None, is_some, map, unwrap_or, if◌then◌else◌}
 use Rattle.std.specs.List.{AllByRecursion}
 use Rattle.std.specs.Option.{option_and_then, option_map_or}
+use Rattle.sql_base.specs.declared.shapes.Schema.{Schema}
 use Rattle.sql_base.specs.declared.values.Value.{Value}
 use Rattle.mig_lens.specs.declared.columns.Lens.{Lens}
+use Rattle.mig_lens.specs.declared.columns.Side.{Side}
+use Rattle.mig_lens.specs.declared.columns.Side.TheVariants.{Old, New}
 use Rattle.mig_lens.specs.declared.faults.Kind.TheVariants.{Nothing}
+use Rattle.mig_lens.specs.declared.plans.Fate.{Fate}
 use Rattle.mig_lens.specs.Laws.{IsSchema, Joins}
+use Rattle.mig_lens.specs.Plan.{table_numbered}
 use Rattle.row_rules.specs.declared.kinds.Halves.{Halves}
 use Rattle.row_rules.specs.declared.kinds.Kept.{Kept}
-use Rattle.row_rules.specs.Site.{shape_of}
+use Rattle.row_rules.specs.Site.{half, halves_on, shape_of}
 use Rattle.machine.specs.declared.states.Mode.TheVariants.{Calm, Both}
 use Rattle.machine.specs.declared.states.State.{State}
 use Rattle.machine.specs.Lawful.{IsLawful}
 use Rattle.machine.specs.Migrate.{lost_columns_in, lost_weight}
-use Rattle.machine.specs.Standing.{IsState}
-use Rattle.machine.specs.State.{Shared, lens_among, lost_columns_of, shared}
+use Rattle.machine.specs.Standing.{HalfStands, IsState}
+use Rattle.machine.specs.State.{Shared, lens_among, lost_columns_of, shared, table_on}
 use Rattle.trigger_pair.specs.declared.pairs.Pair.{Pair}
 use Rattle.trigger_pair.specs.Rows.{IsFilledRow, IsPairedRow}
 use Rattle.trigger_pair.specs.Stored.{new_half, new_view, old_view, stored_row}
 use Rattle.phase_steps.specs.Rows.{IsTrimmedRow, left_row, pair_of, trimmed, trimmed_view}
 use Rattle.roll_core.specs.declared.forms.Form.{Form}
 use Rattle.roll_core.specs.declared.forms.Form.TheVariants.{Own, Paired, Left, Trimmed}
-use Rattle.roll_core.specs.declared.store.Former.{Former}
+
+-- ---- rows and tables
+
+-- A stored row is a key and its values, place by place.
+abbrev pub StoredRow : Type 0
+StoredRow = ℤ × List Value
+
+-- A table as it is stored: its number, the form of its rows, and its rows by ascending key.
+pub record StoredTable : Type 0 where
+  pub number : ℕ
+  pub form : Form
+  pub rows : List StoredRow
 
 -- ---- what is kept of a version that is gone
+
+-- Its name, its tables, what became of each of them, and until the second step the tables, with their rows, that it had alone.
+pub record Former : Type 0 where
+  pub version : List ℕ
+  pub schema : Schema
+  pub fates : List (ℕ × Fate)
+  pub tables : List StoredTable
 
 -- The state as both versions stood, seen from after the first step of completing.
 abbrev pub both_again : Former → State → State
@@ -43,56 +66,50 @@ both_again former frame = record frame {
 abbrev pub pair_over : Shared → Pair
 pair_over both = pair_of (shape_of both.old) (shape_of both.new) both.lens
 
--- A form over the pair of a table, where both versions have it. A table that only one has is stored as its own.
-abbrev pub over_pair : (Pair → Form) → Option Shared → Form
-over_pair form both = option_map_or (λ both. form (pair_over both)) both Own
+-- A form over the pair of a table, where both versions have it. A table that one has alone is stored as that side's own.
+abbrev pub over_pair : (Pair → Form) → Side → Option Shared → Form
+over_pair form alone both = option_map_or (λ both. form (pair_over both)) both (Own alone)
 
 -- What both versions had of a table before the first step of completing.
 abbrev pub former_pair : Option Former → State → ℕ → Option Shared
 former_pair former frame number = option_and_then (λ former. shared (both_again former frame) number) former
 
--- (So far nothing is rolled back.)
+-- While one version stands it is the old side. (So far nothing is rolled back.)
 abbrev pub calm_form : Option Former → State → ℕ → Form
 calm_form former frame number =
-    if frame.left == 2 then over_pair Left (former_pair former frame number)
-    else if frame.left == 1 then over_pair Trimmed (former_pair former frame number)
-    else Own
+    if frame.left == 2 then over_pair Left Old (former_pair former frame number)
+    else if frame.left == 1 then over_pair Trimmed Old (former_pair former frame number)
+    else Own Old
+
+-- The side of a table that one version has alone, while two stand.
+abbrev pub side_alone : State → ℕ → Side
+side_alone frame number = if is_some (table_on frame Old number) then Old else New
 
 -- The form of the table of a number.
 abbrev pub form_in : Option Former → State → ℕ → Form
 form_in former frame number = elim frame.mode [
   | Calm ↦ calm_form former frame number
-  | Both name schema fates ↦ over_pair Paired (shared frame number)
+  | Both name schema fates ↦ over_pair Paired (side_alone frame number) (shared frame number)
 ]
 
 -- ---- the meaning
 
--- The halves that a stored row has. While both versions stand the old view selects the old half and the new view the new one, which is missing exactly where the mark is true. While steps of tidying are left the standing version's view selects its half.
+-- The halves that a stored row has. A table that one version has alone has that side's halves. While both versions stand the old view selects the old half and the new view the new one, which is missing exactly where the mark is true. While steps of tidying are left the standing version's view selects its half.
 abbrev pub halves_of : Form → List Value → Halves
-halves_of Own values = record { old = Some values; new = None }
+halves_of (Own side) values = halves_on side values None
 halves_of (Paired pair) values = record { old = Some (old_view pair values); new = new_half pair values }
 halves_of (Left pair) values = record { old = Some (new_view pair values); new = None }
 halves_of (Trimmed pair) values = record { old = Some (trimmed_view pair.lens values); new = None }
 
 -- The lost weight: that of the old columns that aren't carried, until the second step takes them.
 abbrev pub lost_of : Form → List Value → ℕ
-lost_of Own values = 0
+lost_of (Own side) values = 0
 lost_of (Paired pair) values = 0
 lost_of (Left pair) values = lost_weight pair.lens.old_cols (old_view pair values)
 lost_of (Trimmed pair) values = 0
 
--- A stored row is a key and its values, place by place.
-abbrev pub StoredRow : Type 0
-StoredRow = ℤ × List Value
-
 abbrev pub kept : Form → StoredRow → Kept
 kept form row = record { key = row.0; halves = halves_of form row.1; lost = lost_of form row.1 }
-
--- A table as it is stored: its number, the form of its rows, and its rows by ascending key.
-pub record StoredTable : Type 0 where
-  pub number : ℕ
-  pub form : Form
-  pub rows : List StoredRow
 
 abbrev pub rows_meant : StoredTable → List Kept
 rows_meant table = map (kept table.form) table.rows
@@ -114,7 +131,7 @@ meaning stored = record stored.frame { tables = map table_meant stored.tables }
 
 -- The values that are stored of halves that stand, over what was stored under the key, if anything was: while both versions stand both halves, and no mark; then the standing version's half, with what is lost as it was.
 abbrev pub stored_values : Form → Halves → Option (List Value) → List Value
-stored_values Own halves before = unwrap_or halves.old []
+stored_values (Own side) halves before = unwrap_or (half side halves) []
 stored_values (Paired pair) halves before = stored_row pair (unwrap_or halves.old []) (unwrap_or halves.new []) false
 stored_values (Left pair) halves before = left_row pair.lens (unwrap_or halves.old []) before
 stored_values (Trimmed pair) halves before = trimmed pair.lens (left_row pair.lens (unwrap_or halves.old []) None)
@@ -123,14 +140,14 @@ stored_values (Trimmed pair) halves before = trimmed pair.lens (left_row pair.le
 
 -- Which rows are stored in a form. While both versions stand a row is filled, or as START left it. Then each is filled, until the second step leaves of it what the standing version shows. One version alone stores just its rows, and these fit its shape (`IsState`).
 abbrev pub IsStoredRow : Form → List Value → Type 0
-IsStoredRow Own values = Unit {0}
+IsStoredRow (Own side) values = Unit {0}
 IsStoredRow (Paired pair) values = IsPairedRow pair values
 IsStoredRow (Left pair) values = IsFilledRow pair values
 IsStoredRow (Trimmed pair) values = IsTrimmedRow pair values
 
 -- How many columns of a table are lost with the version that is gone, until the second step takes them.
 abbrev pub lost_columns_by : Form → ℕ
-lost_columns_by Own = 0
+lost_columns_by (Own side) = 0
 lost_columns_by (Paired pair) = 0
 lost_columns_by (Left pair) = lost_columns_in pair.lens
 lost_columns_by (Trimmed pair) = 0
@@ -141,10 +158,18 @@ pub record IsStoredTable (stored : Stored) (table : StoredTable) : Type 0 where
   pub lost : lost_columns_of stored.frame table.number ≡ lost_columns_by table.form
   pub rows : AllByRecursion (λ row. IsStoredRow table.form row.1) table.rows
 
--- The version that is gone stood beside the one that stands: the migration's own lenses join the two.
+-- A table that the version that is gone had alone: its rows are that version's, each with the row's key.
+pub record IsAlone (frame : State) (former : Former) (table : StoredTable) : Type 0 where
+  pub form : table.form ≡ Own Old
+  pub gone : table_numbered frame.schema table.number ≡ None
+  pub rows : AllByRecursion (λ row. HalfStands (table_numbered former.schema table.number) row.0 (Some row.1)) table.rows
+
+-- The version that is gone stood beside the one that stands: the migration's own lenses join the two. After the second step it has no table left.
 pub record FormerStands (frame : State) (former : Former) : Type 0 where
   pub schema : IsSchema former.schema
   pub joined : (number : ℕ) (lens : Lens) → lens_among former.fates number ≡ Some lens → Joins lens number former.schema frame.schema
+  pub alone : AllByRecursion (IsAlone frame former) former.tables
+  pub taken : frame.left ≡ 1 → former.tables ≡ []
 
 -- Something is kept of it exactly while steps of tidying are left.
 abbrev pub HasFormer : State → Option Former → Type 0

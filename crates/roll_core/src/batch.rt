@@ -13,6 +13,7 @@ ghost use Rattle.roll_core.specs.Running as spec;
 ghost use Rattle.roll_core.specs.Seen.{seen};
 ghost use Rattle.roll_core.specs.Store.{rows_meant};
 
+use crate::forms::Form;
 use crate::laws::laws_below;
 use crate::store::StoredTable;
 use crate::writing::put_at;
@@ -25,12 +26,22 @@ use row_rules::{
 use sql_base::List;
 use std::alloc::Global;
 
+// Whether a row of the table is still to be filled. One version alone has nothing to fill.
+fn is_unfilled(table: &StoredTable) -> bool
+    ensures { result ≡ batch.is_unfilled (seen table.now) }
+{
+    match &table.form {
+        Form::Paired(_) => any_missing(table),
+        Form::Own(_) | Form::Left(_) | Form::Trimmed(_) => false,
+    }
+}
+
 // The place of the first table with a row that is still to be filled.
 fn unfilled_at(tables: &[StoredTable]) -> Option<usize>
     ensures { batch.FirstUnfilled (map seen tables.now) result }
 {
     for (at, table) in tables.iter().enumerate() {
-        if any_missing(table) {
+        if is_unfilled(table) {
             return Some(at);
         }
     }

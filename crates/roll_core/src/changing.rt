@@ -1,12 +1,14 @@
 //! Changes, as they are put into the rows of a table. All memory is taken before any of them is put.
 ghost use Rattle.std.specs.Prelude.{◌≡◌, ◌≤◌, ◌+◌, [], IfOk, OnErr, OnOk, length, map, unwrap_or};
 ghost use Rattle.std.specs.Option.{option_copied};
+ghost use Rattle.row_rules.specs.Site.{half};
 ghost use Rattle.roll_core.specs.Changing as spec;
 ghost use Rattle.roll_core.specs.Seen.{seen};
 ghost use Rattle.roll_core.specs.Store as model;
 
 use crate::forms::{Form, copied};
 use crate::store::StoredTable;
+use mig_lens::Side;
 use phase_steps::{left_row, trimmed};
 use row_rules::{Change, Halves};
 use row_store::RowStore;
@@ -21,6 +23,16 @@ pub enum StoredChange {
     Put(i64, List<Value>),
     /// Nothing is.
     Remove(i64),
+}
+
+// The half of a row that a side has.
+fn half_on(side: Side, halves: &Halves) -> &Option<List<Value>>
+    ensures { result.now ≡ half side halves.now }
+{
+    match side {
+        Side::Old => &halves.old,
+        Side::New => &halves.new,
+    }
 }
 
 fn values_or_none(half: &Option<List<Value>>) -> &[Value]
@@ -43,7 +55,7 @@ fn stored_values(
 {
     let old = values_or_none(&halves.old);
     match form {
-        Form::Own => copied(alloc, old),
+        Form::Own(side) => copied(alloc, values_or_none(half_on(*side, halves))),
         Form::Paired(pair) => {
             let own = copied(alloc, old)?;
             let new = values_or_none(&halves.new);

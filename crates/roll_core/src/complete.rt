@@ -1,13 +1,14 @@
 //! COMPLETE: one step of a migration's completion.
-ghost use Rattle.std.specs.Prelude.{◌≡◌, false, IfOk, None, Ok, OnErr, OnOk, is_some, map};
-ghost use Rattle.std.specs.List.{filter_map};
+ghost use Rattle.std.specs.Prelude.{◌≡◌, ◌≤◌, ◌<◌, ◌+◌, ◌++◌, ◌∷◌, [], false, IfOk, None, Ok, OnErr, OnOk, is_some, map, vec_capacity, vec_len};
+ghost use Rattle.std.specs.List.{filter, filter_map};
+ghost use Rattle.std.specs.Option.{option_map};
 ghost use Rattle.mig_lens.specs.declared.faults.Kind.TheVariants as kind;
 ghost use Rattle.mig_lens.specs.Lens.{is_carry};
 ghost use Rattle.row_rules.specs.Outcome.{first_some};
 ghost use Rattle.machine.specs.Laws.{leaves_all};
 ghost use Rattle.machine.specs.Migrate as migrate;
 ghost use Rattle.roll_core.specs.Running.{meant};
-ghost use Rattle.roll_core.specs.Seen.{parts, seen};
+ghost use Rattle.roll_core.specs.Seen.{former_seen, parts, seen};
 ghost use Rattle.roll_core.specs.Stepping as spec;
 ghost use Rattle.roll_core.specs.Store as model;
 
@@ -170,32 +171,102 @@ fn left_form(form: Form) -> Form
     ensures { result ≡ spec.left_form form }
 {
     match form {
-        Form::Own => Form::Own,
+        Form::Own(_) => Form::Own(Side::Old),
         Form::Paired(pair) => Form::Left(pair),
         Form::Left(pair) => Form::Left(pair),
         Form::Trimmed(pair) => Form::Trimmed(pair),
     }
 }
 
-fn leave(table: &mut StoredTable)
-    ensures { seen table.new ≡ spec.left_table (seen table.old) }
+// A table that stays, with its rows as they are stored.
+fn left_table(table: StoredTable) -> StoredTable
+    ensures { seen result ≡ spec.left_table (seen table) }
 {
-    let form = replace(&mut table.form, Form::Own);
-    table.form = left_form(form);
-}
-
-fn leave_all(tables: &mut [StoredTable])
-    ensures { map seen tables.new ≡ map spec.left_table (map seen tables.old) }
-{
-    for table in tables {
-        leave(table);
+    StoredTable {
+        number: table.number,
+        form: left_form(table.form),
+        rows: table.rows,
     }
 }
 
-// The new version stands alone, with two steps of tidying left; what the old one had is given.
-fn left_frame(frame: &mut State, lost: List<(u32, u32)>) -> Option<Former>
+// Whether the new version has the table.
+fn stays(frame: &State, table: &StoredTable) -> bool
+    ensures { result ≡ spec.stays frame.now (seen table.now) }
+{
+    table_on(frame, Side::New, table.number).is_some()
+}
+
+// Moves a table to those that stay or to those that go, where there is room for one.
+fn part_one(
+    frame: &State,
+    table: StoredTable,
+    staying: &mut Vec<StoredTable>,
+    going: &mut Vec<StoredTable>,
+)
+    requires stay_room { vec_len staying.old < vec_capacity staying.old }
+    requires go_room { vec_len going.old < vec_capacity going.old }
+    ensures staying { map seen staying.new.items ≡ map seen staying.old.items
+        ++ map spec.left_table (filter (spec.stays frame.now) (seen table ∷ [])) }
+    ensures going { map seen going.new.items
+        ≡ map seen going.old.items ++ filter (spec.goes frame.now) (seen table ∷ []) }
+    ensures stay_len { vec_len staying.new ≤ vec_len staying.old + 1 }
+    ensures go_len { vec_len going.new ≤ vec_len going.old + 1 }
+    ensures stay_whole { vec_capacity staying.new ≡ vec_capacity staying.old }
+    ensures go_whole { vec_capacity going.new ≡ vec_capacity going.old }
+{
+    if stays(frame, &table) {
+        staying.push_reserved(left_table(table));
+    } else {
+        going.push_reserved(table);
+    }
+}
+
+// Moves the tables so, where there is room for all.
+fn part_all(
+    frame: &State,
+    tables: Vec<StoredTable>,
+    staying: &mut Vec<StoredTable>,
+    going: &mut Vec<StoredTable>,
+)
+    requires stay_room { vec_len staying.old + vec_len tables ≤ vec_capacity staying.old }
+    requires go_room { vec_len going.old + vec_len tables ≤ vec_capacity going.old }
+    ensures staying { map seen staying.new.items ≡ map seen staying.old.items
+        ++ map spec.left_table (filter (spec.stays frame.now) (map seen tables.items)) }
+    ensures going { map seen going.new.items
+        ≡ map seen going.old.items ++ filter (spec.goes frame.now) (map seen tables.items) }
+{
+    for table in tables {
+        part_one(frame, table, staying, going);
+    }
+}
+
+// The tables that the new version has stay, as the step leaves them, and the others are given. No row is copied. An error
+// is want of memory, and then the tables are as they were.
+fn part(
+    alloc: Global,
+    frame: &State,
+    tables: &mut Vec<StoredTable>,
+) -> Result<Vec<StoredTable>, NoMemory>
+    ensures staying { OnOk result (map seen tables.new.items
+        ≡ map spec.left_table (filter (spec.stays frame.now) (map seen tables.old.items))) }
+    ensures going { IfOk result (λ gone. map seen gone.items
+        ≡ filter (spec.goes frame.now) (map seen tables.old.items)) }
+    ensures err { OnErr result (tables.new.items ≡ tables.old.items) }
+{
+    let count = tables.len();
+    let mut staying = Vec::with_capacity(alloc, count)?;
+    let mut going = Vec::with_capacity(alloc, count)?;
+    let all = replace(tables, Vec::new(alloc));
+    part_all(frame, all, &mut staying, &mut going);
+    *tables = staying;
+    Ok(going)
+}
+
+// The new version stands alone, with two steps of tidying left; what the old one had is given, with these tables.
+fn left_frame(frame: &mut State, lost: List<(u32, u32)>, tables: Vec<StoredTable>) -> Option<Former>
     ensures frame { frame.new ≡ spec.left_frame lost frame.old }
-    ensures former { result ≡ spec.former_of frame.old }
+    ensures former { option_map former_seen result
+        ≡ spec.former_by frame.old frame.old.mode (map seen tables.items) }
 {
     match replace(&mut frame.mode, Mode::Calm) {
         Mode::Calm => None,
@@ -211,6 +282,7 @@ fn left_frame(frame: &mut State, lost: List<(u32, u32)>) -> Option<Former>
                 version: replace(&mut frame.version, name),
                 schema: replace(&mut frame.schema, schema),
                 fates,
+                tables,
             })
         }
     }
@@ -222,10 +294,10 @@ fn tidied_form(alloc: Global, form: &Form) -> Result<Form, NoMemory>
     ensures { IfOk result (λ tidied. tidied ≡ spec.tidied_form form.now) }
 {
     match form {
-        Form::Own => Ok(Form::Own),
+        Form::Own(side) => Ok(Form::Own(*side)),
         Form::Paired(pair) => Ok(Form::Paired(pair.copy(alloc)?)),
         Form::Left(pair) => Ok(Form::Trimmed(pair.copy(alloc)?)),
-        Form::Trimmed(_) => Ok(Form::Own),
+        Form::Trimmed(_) => Ok(Form::Own(Side::Old)),
     }
 }
 
@@ -251,15 +323,27 @@ fn tidied_tables(alloc: Global, tables: &[StoredTable]) -> Result<Vec<StoredTabl
     Ok(tidied)
 }
 
+// The tables that the version that is gone had alone go, with their rows.
+fn drop_tables(alloc: Global, former: &mut Option<Former>)
+    ensures { option_map former_seen former.new
+        ≡ option_map spec.without_tables (option_map former_seen former.old) }
+{
+    if let Some(former) = former {
+        former.tables = Vec::new(alloc);
+    }
+}
+
 // The second step, or the third, which is the last: its number.
 fn next_step(alloc: Global, frame: &mut State, former: &mut Option<Former>) -> u8
     ensures frame { frame.new ≡ spec.tidied_frame frame.old }
-    ensures former { former.new ≡ spec.tidied_former frame.old former.old }
+    ensures former { option_map former_seen former.new
+        ≡ spec.tidied_former frame.old (option_map former_seen former.old) }
     ensures number { result ≡ spec.tidied_number frame.old }
 {
     if frame.left == 2 {
         frame.left = 1;
         frame.lost_columns = List::new(alloc);
+        drop_tables(alloc, former);
         2
     } else {
         frame.left = 0;
@@ -310,8 +394,8 @@ fn finish(
         return Err(Stop::Because(refusal));
     }
     let lost = lost_columns(alloc, &frame.mode, tables)?;
-    *former = left_frame(frame, lost);
-    leave_all(tables);
+    let gone = part(alloc, frame, tables)?;
+    *former = left_frame(frame, lost, gone);
     Ok(Reply::Complete(1))
 }
 

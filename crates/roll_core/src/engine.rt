@@ -14,10 +14,12 @@ ghost use Rattle.roll_core.specs.Store.{meaning};
 use crate::batch::least_fill;
 use crate::commands::{Cmd, run};
 use crate::forms::Form;
+use crate::laws::laws_below;
 use crate::statement::answer;
 use crate::store::{Former, StoredTable};
 use machine::parts::no_memory;
 use machine::{Reply, State, beginning};
+use mig_lens::Side;
 use row_rules::Stop;
 use row_store::RowStore;
 use sql_base::{List, Name, NoMemory, Stmt};
@@ -83,7 +85,7 @@ impl Core {
         let mut tables = Vec::new(alloc);
         tables.push(StoredTable {
             number: 1,
-            form: Form::Own,
+            form: Form::Own(Side::Old),
             rows: RowStore::new(alloc),
         })?;
         Ok(Core {
@@ -104,6 +106,7 @@ impl Core {
     {
         machine::laws::states_stand();
         machine::laws::states_stay_lawful();
+        laws_below();
         replied(answer(self.alloc, &self.frame, &mut self.tables, path, stmt))
     }
 
@@ -119,12 +122,14 @@ impl Core {
         machine::laws::states_stand();
         machine::laws::states_stay_lawful();
         machine::laws::lane_runs_are_runs();
+        laws_below();
         replied(least_fill(self.alloc, &self.frame, &mut self.tables, n))
     }
 
     /// A command of a migration is one step of the machine. An accepted one stores exactly what its step leaves: START the
-    /// rows as the migration's plan begins with them, COMPLETE what the step of completing leaves that is next. A refused
-    /// one changes nothing that is stored. An error is want of memory, and then the engine is as it was.
+    /// rows as the migration's plan begins with them and a table without rows for each that it creates, COMPLETE what the
+    /// step of completing leaves that is next. A refused one changes nothing that is stored. An error is want of memory,
+    /// and then the engine is as it was.
     pub fn ddl(&mut self, cmd: &Cmd) -> Result<Reply, NoMemory>
         ensures step { IfOk result (λ reply. Step (meaning self.old) (engine.event_of cmd.now) reply (meaning self.new)) }
         ensures refused { IfOk result (λ reply. leaves_all reply ≡ true → self.new ≡ self.old) }

@@ -1,9 +1,11 @@
 //! The forms in which the rows of a table are stored, and the halves that a stored row has.
-ghost use Rattle.std.specs.Prelude.{◌≡◌, IfOk, None, Some, is_none};
+ghost use Rattle.std.specs.Prelude.{◌≡◌, IfOk, None, is_none};
+ghost use Rattle.row_rules.specs.Site.{halves_on};
 ghost use Rattle.trigger_pair.specs.Stored as stored;
 ghost use Rattle.roll_core.specs.Store as spec;
 
 use machine::parts::lost_weight;
+use mig_lens::Side;
 use phase_steps::{left_row, trimmed, trimmed_view};
 use row_rules::Halves;
 use sql_base::{Copying, List, NoMemory, Value};
@@ -13,8 +15,9 @@ use trigger_pair::{Pair, is_marked, new_view, old_view};
 /// The form in which the rows of a table are stored. The pair is what both versions have of the table.
 #[derive(Drop)]
 pub enum Form {
-    /// One version has the table: its columns, in its order.
-    Own,
+    /// One version alone has the table, that of this side: its columns, in its order. While one version stands it is the
+    /// old side.
+    Own(Side),
     /// Both versions stand: the pair's layout.
     Paired(Pair),
     /// The old version is gone, with two steps of tidying left: still the pair's layout.
@@ -26,7 +29,7 @@ pub enum Form {
 impl Copying for Form {
     fn copy(&self, alloc: Global) -> Result<Form, NoMemory> {
         match self {
-            Form::Own => Ok(Form::Own),
+            Form::Own(side) => Ok(Form::Own(*side)),
             Form::Paired(pair) => Ok(Form::Paired(pair.copy(alloc)?)),
             Form::Left(pair) => Ok(Form::Left(pair.copy(alloc)?)),
             Form::Trimmed(pair) => Ok(Form::Trimmed(pair.copy(alloc)?)),
@@ -41,13 +44,19 @@ pub fn copied(alloc: Global, values: &[Value]) -> Result<List<Value>, NoMemory>
     trigger_pair::parts::with_all(alloc, List::new(alloc), values)
 }
 
-// The halves of a row that one version alone has.
-fn alone(values: List<Value>) -> Halves
-    ensures { result ≡ record { old = Some values; new = None } }
+// The halves of a row of which a side has this half, and the other side none.
+fn alone(side: Side, values: List<Value>) -> Halves
+    ensures { result ≡ halves_on side values None }
 {
-    Halves {
-        old: Some(values),
-        new: None,
+    match side {
+        Side::Old => Halves {
+            old: Some(values),
+            new: None,
+        },
+        Side::New => Halves {
+            old: None,
+            new: Some(values),
+        },
     }
 }
 
@@ -65,7 +74,7 @@ pub fn halves_of(alloc: Global, form: &Form, values: &[Value]) -> Result<Halves,
     ensures { IfOk result (λ halves. halves ≡ spec.halves_of form.now values.now) }
 {
     match form {
-        Form::Own => Ok(alone(copied(alloc, values)?)),
+        Form::Own(side) => Ok(alone(*side, copied(alloc, values)?)),
         Form::Paired(pair) => {
             let old = old_view(alloc, pair, values)?;
             let new = new_half(alloc, pair, values)?;
@@ -74,17 +83,18 @@ pub fn halves_of(alloc: Global, form: &Form, values: &[Value]) -> Result<Halves,
                 new,
             })
         }
-        Form::Left(pair) => Ok(alone(new_view(alloc, pair, values)?)),
-        Form::Trimmed(pair) => Ok(alone(trimmed_view(alloc, &pair.lens, values)?)),
+        Form::Left(pair) => Ok(alone(Side::Old, new_view(alloc, pair, values)?)),
+        Form::Trimmed(pair) => Ok(alone(Side::Old, trimmed_view(alloc, &pair.lens, values)?)),
     }
 }
 
-/// Whether a row that is stored in a form is still to be filled.
-pub fn is_unfilled(form: &Form, values: &[Value]) -> bool
+/// Whether a row that is stored in a form has no new half.
+pub fn misses_new(form: &Form, values: &[Value]) -> bool
     ensures { result ≡ is_none (spec.halves_of form.now values.now).new }
 {
     match form {
-        Form::Own => true,
+        Form::Own(Side::Old) => true,
+        Form::Own(Side::New) => false,
         Form::Paired(pair) => is_marked(pair, values),
         Form::Left(_) => true,
         Form::Trimmed(_) => true,
@@ -96,7 +106,7 @@ pub fn lost_of(alloc: Global, form: &Form, values: &[Value]) -> Result<u64, NoMe
     ensures { IfOk result (λ weight. weight ≡ spec.lost_of form.now values.now) }
 {
     match form {
-        Form::Own => Ok(0),
+        Form::Own(_) => Ok(0),
         Form::Paired(_) => Ok(0),
         Form::Left(pair) => {
             let old = old_view(alloc, pair, values)?;

@@ -8,6 +8,7 @@ pub fn laws_below()
     machine::laws::tables_stand();
     machine::laws::sites_stand();
     machine::laws::carried_columns_agree();
+    mig_plan::laws::created_tables_are_numbered();
     row_rules::reach_laws::standing_rows_show_their_keys();
     row_store::laws::changes_keep_order();
     trigger_pair::laws::pairs_are_long();

@@ -1,9 +1,10 @@
 //! START: a migration is begun over what is stored.
-ghost use Rattle.std.specs.Prelude.{◌≡◌, false, IfOk, None, OnErr, OnOk, Option, map};
+ghost use Rattle.std.specs.Prelude.{◌≡◌, ◌≤◌, ◌+◌, ◌++◌, false, IfOk, None, OnErr, OnOk, Option, length, map};
 ghost use Rattle.std.specs.List.{list_any};
 ghost use Rattle.machine.specs.Laws.{leaves_all};
 ghost use Rattle.machine.specs.Migrate as migrate;
 ghost use Rattle.machine.specs.declared.events.Asked.TheVariants.{Read as Migrates};
+ghost use Rattle.mig_lens.specs.Plan.{created_in};
 ghost use Rattle.row_rules.specs.Outcome.{Answers};
 ghost use Rattle.roll_core.specs.declared.store.Former.{Former};
 ghost use Rattle.roll_core.specs.Running.{meant};
@@ -15,10 +16,11 @@ use crate::forms::Form;
 use crate::laws::laws_below;
 use crate::stepping::stepped_rows;
 use crate::store::StoredTable;
-use machine::parts::{lens_among, may_not_start, numbered, planned};
+use machine::parts::{created_in, lens_among, may_not_start, numbered, planned};
 use machine::{Asked, Mode, Reply, State};
-use mig_lens::{Fate, Lens, Migration, Plan, Refusal, layout};
+use mig_lens::{Fate, Lens, Migration, Plan, Refusal, Side, layout};
 use row_rules::{Stop, Table, show_heavy};
+use row_store::RowStore;
 use sql_base::{Copying, Name, NoMemory};
 use std::alloc::Global;
 use trigger_pair::Pair;
@@ -87,7 +89,7 @@ fn begun_form(alloc: Global, frame: &State, plan: &Plan, number: u32) -> Result<
         lens_among(plan.fates.as_slice(), number),
     ) {
         (Some(old), Some(new), Some(lens)) => Ok(Form::Paired(pair_of(alloc, old, new, lens)?)),
-        _ => Ok(Form::Own),
+        _ => Ok(Form::Own(Side::Old)),
     }
 }
 
@@ -123,6 +125,31 @@ fn begun_tables(
     Ok(begun)
 }
 
+fn created_table(alloc: Global, number: u32) -> StoredTable
+    ensures { seen result ≡ spec.created_table number }
+{
+    StoredTable {
+        number,
+        form: Form::Own(Side::New),
+        rows: RowStore::new(alloc),
+    }
+}
+
+// Adds a table without rows for each of these numbers.
+fn add_created(
+    alloc: Global,
+    tables: &mut Vec<StoredTable>,
+    numbers: &[u32],
+) -> Result<(), NoMemory>
+    ensures { OnOk result (map seen tables.new.items
+        ≡ map seen tables.old.items ++ map spec.created_table numbers.now) }
+{
+    for number in numbers {
+        tables.push(created_table(alloc, *number))?;
+    }
+    Ok(())
+}
+
 // ---- the start
 
 // The migration is begun by its plan. An error is want of memory, and then nothing has changed.
@@ -133,12 +160,18 @@ fn begin(
     name: &Name,
     plan: Plan,
 ) -> Result<(), NoMemory>
-    ensures frame { IfOk result (λ _. frame.new ≡ spec.begun_frame frame.old name.now plan) }
-    ensures tables { IfOk result (λ _. map seen tables.new.items ≡ map (spec.begun_table frame.old plan) (map seen tables.old.items)) }
+    requires { frame.old.next_table + length (created_in plan.fates) ≤ 4294967295 }
+    ensures frame { OnOk result (frame.new ≡ spec.begun_frame frame.old name.now plan) }
+    ensures tables { OnOk result (map seen tables.new.items
+        ≡ map (spec.begun_table frame.old plan) (map seen tables.old.items)
+        ++ map spec.created_table (created_in plan.fates)) }
     ensures none { OnErr result (parts frame.new None tables.new.items ≡ parts frame.old None tables.old.items) }
 {
-    let begun = begun_tables(alloc, frame, &plan, tables)?;
+    let created = created_in(alloc, plan.fates.as_slice())?;
+    let mut begun = begun_tables(alloc, frame, &plan, tables)?;
+    add_created(alloc, &mut begun, created.as_slice())?;
     let name = name.copy(alloc)?;
+    frame.next_table += created.len() as u32;
     frame.mode = Mode::Both {
         name,
         schema: plan.schema,
@@ -167,6 +200,8 @@ fn start_read(
         Err(stop) => return Err(stop),
     };
     let reply = Reply::Start(m.name.copy(alloc)?);
+    // The number of the next table has 32 bits, and so it has after the plan.
+    let _next_table = frame.next_table;
     begin(alloc, frame, tables, &m.name, plan)?;
     Ok(reply)
 }

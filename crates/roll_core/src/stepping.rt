@@ -15,7 +15,7 @@ fn stepped_values(alloc: Global, form: &Form, values: &[Value]) -> Result<List<V
     ensures { IfOk result (λ stepped. stepped ≡ spec.stepped_values form.now values.now) }
 {
     match form {
-        Form::Own => copied(alloc, values),
+        Form::Own(_) => copied(alloc, values),
         Form::Paired(pair) => begun(alloc, pair, values),
         Form::Left(pair) => trimmed(alloc, &pair.lens, values),
         Form::Trimmed(pair) => trimmed_view(alloc, &pair.lens, values),

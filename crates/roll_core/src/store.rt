@@ -2,15 +2,15 @@
 ghost use Rattle.std.specs.Prelude.{◌≡◌, IfOk};
 ghost use Rattle.roll_core.specs.Store as spec;
 
-use crate::forms::{Form, halves_of, is_unfilled, lost_of};
+use crate::forms::{Form, halves_of, lost_of, misses_new};
 use mig_lens::Fate;
 use row_rules::{Kept, TableRows};
 use row_store::RowStore;
 use sql_base::{List, Name, NoMemory, Schema, Value};
 use std::alloc::Global;
 
-/// What is kept of a version that is gone, while steps of tidying are left: its name, its tables, and what became of each
-/// of them.
+/// What is kept of a version that is gone, while steps of tidying are left: its name, its tables, what became of each of
+/// them, and until the second step of completing the rows of those that it had alone.
 #[derive(Drop)]
 pub struct Former {
     /// Its name, without `public_`.
@@ -19,6 +19,8 @@ pub struct Former {
     pub schema: Schema,
     /// What became of each table, by its number.
     pub fates: List<(u32, Fate)>,
+    /// The tables that it had alone, as they are stored, until the second step of completing.
+    pub tables: Vec<StoredTable>,
 }
 
 /// A table as it is stored.
@@ -60,7 +62,7 @@ impl TableRows for StoredTable {
 
     fn misses_at(&self, at: usize) -> bool {
         match self.rows.at(at) {
-            Some((_, values)) => is_unfilled(&self.form, values),
+            Some((_, values)) => misses_new(&self.form, values),
             None => unreachable!(),
         }
     }

@@ -1,5 +1,5 @@
 //! Replies as text, as the program is to write them.
-use machine::Reply;
+use machine::{Kept, Reply, State};
 use mig_lens::{Member, Place, Refusal};
 use sql_base::{Code, List, Name, NoMemory, Value};
 use std::alloc::Global;
@@ -50,6 +50,7 @@ fn code_word(code: Code) -> &'static str {
         Code::C0A000 => "0A000",
         Code::C22003 => "22003",
         Code::C22012 => "22012",
+        Code::C22P02 => "22P02",
         Code::C23502 => "23502",
         Code::C23505 => "23505",
         Code::C42601 => "42601",
@@ -201,6 +202,24 @@ pub fn reply_text(alloc: Global, reply: &Reply) -> Result<Vec<u8>, NoMemory> {
         Reply::Filled => push(&mut out, "FILLED\n")?,
         Reply::Complete(step) => push(&mut out, format!(in alloc; "COMPLETE {step}\n")?.as_str())?,
         Reply::Refused(refusal) => push_refusal(alloc, &mut out, refusal)?,
+    }
+    Ok(out)
+}
+
+fn push_lost(alloc: Global, out: &mut Vec<u8>, rows: &[Kept]) -> Result<(), NoMemory> {
+    for row in rows {
+        let line = format!(in alloc; "  {}|{}\n", row.key, row.lost)?;
+        push(out, line.as_str())?;
+    }
+    Ok(())
+}
+
+/// The key of each row and its lost weight.
+pub fn lost_text(alloc: Global, state: &State) -> Result<Vec<u8>, NoMemory> {
+    let mut out = Vec::new(alloc);
+    push(&mut out, "LOST\n")?;
+    for table in state.tables.as_slice() {
+        push_lost(alloc, &mut out, table.1.as_slice())?;
     }
     Ok(out)
 }

@@ -4,10 +4,9 @@
 #[derive(Drop)]
 pub enum Line<'a> {
     Start(&'a str),
-    Default(i64),
-    Made(&'a str),
     Batch(u32),
     Complete,
+    Lost,
     Said(&'a str),
 }
 
@@ -16,24 +15,18 @@ pub fn line_of(line: &str) -> Line<'_> {
     if let Some(text) = line.strip_prefix("\\start ") {
         return Line::Start(text);
     }
-    if let Some(value) = line.strip_prefix("\\default ") {
-        return Line::Default(value.parse::<i64>().unwrap_or(0));
-    }
-    if let Some(up) = line.strip_prefix("\\made ") {
-        return Line::Made(up);
-    }
     if let Some(count) = line.strip_prefix("\\batch ") {
         return Line::Batch(count.parse::<u32>().unwrap_or(0));
     }
     match line {
         "\\complete" => Line::Complete,
+        "\\lost" => Line::Lost,
         _ => Line::Said(line),
     }
 }
 
-/// The scripts, each with what it is answered. `\default` and `\made` start a migration that adds to users the column age,
-/// which takes no NULL, with this default, or with this `up`.
-pub const SCRIPTS: [(&str, &str); 20] = [
+/// The scripts, each with what it is answered. `\lost` is answered each row's key and its lost weight.
+pub const SCRIPTS: [(&str, &str); 24] = [
     (
         "\
 INSERT INTO users (id, name) VALUES (1, 'a')
@@ -283,7 +276,7 @@ SELECT
     (
         "\
 INSERT INTO users (id, name) VALUES (1, 'a'), (2, 'b'), (3, 'c')
-\\made CASE WHEN name = 'b' THEN NULL ELSE 1 END
+\\start {\"name\":\"02_n\",\"operations\":[{\"add_column\":{\"table\":\"users\",\"column\":{\"name\":\"n\",\"type\":\"bigint\"},\"up\":\"CASE WHEN name = 'b' THEN NULL ELSE 1 END\"}}]}
 \\batch 10
 \\complete
 UPDATE users SET name = 'b' WHERE id > 1
@@ -293,10 +286,10 @@ UPDATE users SET name = 'd' WHERE id = 2
 ",
         "\
 INSERT 0 3
-START public_02_age
+START public_02_n
 REFUSED P19 users 2 23502
 REFUSED P4 users 1
-ERROR 23502 users_age_not_null 2
+ERROR 23502 users_n_not_null 2
 UPDATE 1
 FILL users 2 1 3
 COMPLETE 1
@@ -424,7 +417,7 @@ ERROR 42P01 people -
     ),
     (
         "\
-\\default 7
+\\start {\"name\":\"02_age\",\"operations\":[{\"add_column\":{\"table\":\"users\",\"column\":{\"name\":\"age\",\"type\":\"bigint\",\"default\":\"7\"}}}]}
 INSERT INTO users (id, name) VALUES (1, 'a')
 SET search_path TO public_02_age
 INSERT INTO users (id, name) VALUES (2, 'b')
@@ -510,6 +503,209 @@ UPDATE 1
 COMPLETE 1
 SELECT
   1|a|5
+",
+    ),
+    (
+        "\
+\\start {\"name\":\"01_people\",\"operations\":[{\"create_table\":{\"name\":\"people\",\"columns\":[{\"name\":\"id\",\"type\":\"bigint\",\"pk\":true},{\"name\":\"name\",\"type\":\"text\"},{\"name\":\"age\",\"type\":\"text\",\"nullable\":true}]}}]}
+SELECT * FROM people
+SET search_path TO public_01_people
+SELECT * FROM people
+INSERT INTO people (id, name, age) VALUES (1, 'ann', '37')
+SELECT * FROM users
+\\batch 9
+\\complete
+SELECT * FROM people
+\\lost
+\\complete
+\\complete
+\\start {\"name\":\"02_age\",\"operations\":[{\"alter_column\":{\"table\":\"people\",\"column\":\"age\",\"type\":\"bigint\",\"up\":\"CAST(age AS bigint)\",\"down\":\"CAST(age AS text)\"}}]}
+SET search_path TO public_02_age
+INSERT INTO people (id, name, age) VALUES (2, 'bob', 5)
+SET search_path TO public_01_people
+SELECT age || '!' FROM people WHERE id = 2
+SET search_path TO public_02_age
+UPDATE people SET name = 'z' WHERE age = 37
+UPDATE people SET name = 'eve' WHERE id = 1
+SET search_path TO public_01_people
+SELECT * FROM people WHERE id = 1
+UPDATE people SET age = '401' WHERE id = 2
+UPDATE people SET age = 'x' WHERE id = 2
+SET search_path TO public_02_age
+SELECT age + 1 FROM people
+\\complete
+INSERT INTO people (id, name, age) VALUES (3, 'fay', NULL)
+\\lost
+\\complete
+\\lost
+",
+        "\
+START public_01_people
+ERROR 42P01 people -
+SET
+SELECT
+INSERT 0 1
+SELECT
+FILLED
+COMPLETE 1
+SELECT
+  1|ann|37
+LOST
+  1|0
+COMPLETE 2
+COMPLETE 3
+START public_02_age
+SET
+INSERT 0 1
+SET
+SELECT
+  5!
+SET
+UPDATE 0
+UPDATE 1
+SET
+SELECT
+  1|eve|37
+UPDATE 1
+ERROR 22P02 - 2
+SET
+SELECT
+  38
+  402
+COMPLETE 1
+INSERT 0 1
+LOST
+  1|5
+  2|6
+  3|1
+COMPLETE 2
+LOST
+  1|0
+  2|0
+  3|0
+",
+    ),
+    (
+        "\
+\\start {\"name\":\"01_people\",\"operations\":[{\"create_table\":{\"name\":\"people\",\"columns\":[{\"name\":\"id\",\"type\":\"bigint\",\"pk\":true},{\"name\":\"name\",\"type\":\"text\"},{\"name\":\"age\",\"type\":\"text\",\"nullable\":true}]}}]}
+SET search_path TO public_01_people
+INSERT INTO people (id, name, age) VALUES (1, 'ann', '37')
+\\complete
+\\complete
+\\complete
+\\start {\"name\":\"02_age\",\"operations\":[{\"alter_column\":{\"table\":\"people\",\"column\":\"age\",\"type\":\"bigint\",\"up\":\"CAST(age AS bigint) / 10 * 10\",\"down\":\"CAST(age AS text)\"}}]}
+SET search_path TO public_02_age
+UPDATE people SET name = 'eve' WHERE id = 1
+SET search_path TO public_01_people
+SELECT * FROM people
+",
+        "\
+START public_01_people
+SET
+INSERT 0 1
+COMPLETE 1
+COMPLETE 2
+COMPLETE 3
+START public_02_age
+SET
+UPDATE 1
+SET
+SELECT
+  1|eve|30
+",
+    ),
+    (
+        "\
+\\start {\"name\":\"01_people\",\"operations\":[{\"create_table\":{\"name\":\"people\",\"columns\":[{\"name\":\"id\",\"type\":\"bigint\",\"pk\":true},{\"name\":\"name\",\"type\":\"text\"},{\"name\":\"age\",\"type\":\"text\",\"nullable\":true}]}}]}
+SET search_path TO public_01_people
+INSERT INTO people (id, name, age) VALUES (1, 'ann', '37'), (2, 'bob', '5')
+\\complete
+\\complete
+\\complete
+\\start {\"name\":\"02_tidy\",\"operations\":[{\"rename_column\":{\"table\":\"people\",\"from\":\"name\",\"to\":\"full_name\"}},{\"drop_column\":{\"table\":\"people\",\"column\":\"age\",\"down\":\"'0'\"}}]}
+\\batch 9
+SET search_path TO public_02_tidy
+INSERT INTO people (id, full_name) VALUES (5, 'eve')
+UPDATE people SET full_name = 'ann b' WHERE id = 1
+SELECT * FROM people
+SELECT age FROM people
+SET search_path TO public_01_people
+SELECT full_name FROM people
+SELECT * FROM people
+",
+        "\
+START public_01_people
+SET
+INSERT 0 2
+COMPLETE 1
+COMPLETE 2
+COMPLETE 3
+START public_02_tidy
+FILLED
+SET
+INSERT 0 1
+UPDATE 1
+SELECT
+  1|ann b
+  2|bob
+  5|eve
+ERROR 42703 age -
+SET
+ERROR 42703 full_name -
+SELECT
+  1|ann b|0
+  2|bob|5
+  5|eve|0
+",
+    ),
+    (
+        "\
+\\start {\"name\":\"01_people\",\"operations\":[{\"create_table\":{\"name\":\"people\",\"columns\":[{\"name\":\"id\",\"type\":\"bigint\",\"pk\":true},{\"name\":\"name\",\"type\":\"text\"},{\"name\":\"age\",\"type\":\"text\",\"nullable\":true}]}}]}
+SET search_path TO public_01_people
+INSERT INTO people (id, name, age) VALUES (1, 'ann', '37')
+\\complete
+\\complete
+\\complete
+\\start {\"name\":\"02_tidy\",\"operations\":[{\"drop_column\":{\"table\":\"people\",\"column\":\"age\"}}]}
+SET search_path TO public_02_tidy
+INSERT INTO people (id, name) VALUES (5, 'eve')
+UPDATE people SET name = 'ann b' WHERE id = 1
+SET search_path TO public_01_people
+SELECT * FROM people
+\\complete
+SELECT * FROM people
+SET search_path TO public_02_tidy
+INSERT INTO people (id, name) VALUES (6, 'fay')
+SELECT * FROM people
+\\lost
+",
+        "\
+START public_01_people
+SET
+INSERT 0 1
+COMPLETE 1
+COMPLETE 2
+COMPLETE 3
+START public_02_tidy
+SET
+INSERT 0 1
+UPDATE 1
+SET
+SELECT
+  1|ann b|37
+  5|eve|\\N
+COMPLETE 1
+ERROR 42P01 people -
+SET
+INSERT 0 1
+SELECT
+  1|ann b
+  5|eve
+  6|fay
+LOST
+  1|5
+  5|1
+  6|1
 ",
     ),
     ("\n", ""),

@@ -7,8 +7,10 @@ returns c = record {
   backward = c.made_halves_fit.ensures.backward;
   forward_carries = c.carried_columns_keep_their_values.ensures.forward;
   backward_carries = c.carried_columns_keep_their_values.ensures.backward;
-  join = c.planned_lenses_join.ensures.join;
+  order = c.changes_keep_order.ensures;
   schemas = c.planned_schemas_are_well_formed.ensures;
-  tables = c.added_columns_keep_tables.ensures.tables;
-  lenses = c.added_columns_keep_tables.ensures.lenses;
+  fates = c.planned_tables_have_fates.ensures.stand;
+  all = c.planned_tables_have_fates.ensures.all;
+  numbered = c.created_tables_are_numbered.ensures.numbers;
+  next = c.created_tables_are_numbered.ensures.below;
 }

@@ -1,4 +1,4 @@
-use Rattle.machine.proofs.StandingSites.{changed_rows_ascend, changes_keep, filling_stands, found_sites_stand, rows_on_sites, rows_stand_by, shared_stands, shows_stand, writes_stand}
+use Rattle.machine.proofs.StandingSites.{changes_keep, filling_stands, found_sites_stand, rows_on_sites, rows_stand_by, shared_stands, shows_stand, writes_stand}
 use Rattle.machine.proofs.laws.sites_stand.Goals as goal
 
 pub returns-clause-found : goal.returns-clause-found
@@ -24,6 +24,3 @@ returns-clause-on_site c = rows_on_sites
 
 pub returns-clause-changes : goal.returns-clause-changes
 returns-clause-changes c = changes_keep c.laws_below.ensures
-
-pub returns-clause-ascend : goal.returns-clause-ascend
-returns-clause-ascend c = changed_rows_ascend

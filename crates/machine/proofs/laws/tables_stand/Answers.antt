@@ -1,14 +1,17 @@
-use Rattle.machine.proofs.StandingTables.{filled_rows_have_halves, starts_stand, tables_are_shared, tables_have_their_rows, tables_stay}
+use Rattle.machine.proofs.StandingTables.{both_are_shared, filled_rows_have_halves, shared_by_lenses, starts_stand, tables_are_known, tables_have_their_rows}
 use Rattle.machine.proofs.laws.tables_stand.Goals as goal
 
 pub returns-clause-rows : goal.returns-clause-rows
 returns-clause-rows c = tables_have_their_rows
 
-pub returns-clause-shared : goal.returns-clause-shared
-returns-clause-shared c = tables_are_shared
+pub returns-clause-known : goal.returns-clause-known
+returns-clause-known c = tables_are_known
 
-pub returns-clause-stay : goal.returns-clause-stay
-returns-clause-stay c = tables_stay
+pub returns-clause-both : goal.returns-clause-both
+returns-clause-both c = both_are_shared
+
+pub returns-clause-lenses : goal.returns-clause-lenses
+returns-clause-lenses c = shared_by_lenses
 
 pub returns-clause-filled : goal.returns-clause-filled
 returns-clause-filled c = filled_rows_have_halves

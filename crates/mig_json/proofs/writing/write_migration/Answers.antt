@@ -1,8 +1,8 @@
-use Rattle.std.proofs.Common.{◌≡◌, ℕ, ◌≤◌, List, ◌∙◌, ap, sym, subst, Some, IsUtf8}
+use Rattle.std.proofs.Common.{◌≤◌, ◌∙◌, ap, sym, subst, Some, IsUtf8}
 use Rattle.serde_json.specs.Data.{Data, depth}
 use Rattle.serde_json.specs.Read.{read, max_depth}
 use Rattle.serde_json.specs.Written.{has_float, compact_text}
-use Rattle.mig_json.specs.Writing.{canonical_text, json_of}
+use Rattle.mig_json.specs.Writing.{canonical_text}
 use Rattle.mig_json.proofs.Back.{reads_again}
 use Rattle.mig_json.proofs.Plain.{no_float, not_deep}
 use Rattle.mig_json.proofs.writing.write_migration.Goals as goal

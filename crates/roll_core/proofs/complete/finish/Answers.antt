@@ -1,5 +1,5 @@
-use Rattle.roll_core.proofs.Words.{Ok, subst, Goes, AreKept, Complete, complete, meaning, left_parts, ◌≡◌, ◌∙◌, ◌++◌, List, Some, ap, drop, length, map, refl, sym, take, take_at, parts, seen}
-use Rattle.roll_core.proofs.Words.{left_frame, left_table, lost_columns, may_not_complete, Stored}
+use Rattle.roll_core.proofs.Words.{Ok, subst, Goes, AreKept, Complete, complete, meaning, left_parts, ◌≡◌, ◌∙◌, List, Some, ap, map, option_map, refl, sym, former_by, former_seen, parts, seen}
+use Rattle.roll_core.proofs.Words.{left_frame, lost_columns, may_not_complete, Stored}
 use Rattle.roll_core.specs.declared.store.StoredTable.{StoredTable}
 use Rattle.roll_core.proofs.Leaving.{finish_refused, finishes}
 use Rattle.roll_core.proofs.Stepped.{same_parts}
@@ -14,14 +14,11 @@ returns-in-Some-clause-goes c =
 pub returns : goal.returns
 returns c =
     let frame = c.args.frame.now in
-    let before = c.args.tables.now.items in
-    let old : Stored = parts frame c.args.former.now before in
-    let after = c.leave_all.new.tables in
-    let items = take c.args.tables.now.len (after ++ drop (length after) before) in
-    let same : items ≡ after = take_at after (drop (length after) before) c.args.tables.now.len (c.leave_all.auto.tables ∙ c.deref_mut.ensures.len) in
+    let old : Stored = parts frame c.args.former.now c.args.tables.now.items in
     let is_frame = c.left_frame.ensures.frame ∙ ap (λ lost. left_frame lost frame) (c.in_ok-lost.ensures ∙ ap (λ (ts : List StoredTable). lost_columns frame.mode (map seen ts)) c.deref-2.ensures.value) in
-    let is_tables = ap (map seen) same ∙ c.leave_all.ensures ∙ ap (λ (ts : List StoredTable). map left_table (map seen ts)) c.deref_mut.ensures.value in
-    let is : parts c.left_frame.new.frame c.left_frame.result items ≡ left_parts old = same_parts c.left_frame.new.frame _ c.left_frame.result _ (map seen items) _ is_frame c.left_frame.ensures.former is_tables in
+    let is_former = c.left_frame.ensures.former ∙ ap (former_by frame frame.mode) c.in_ok-gone.ensures.going in
+    let is : parts c.left_frame.new.frame c.left_frame.result c.part.new.tables.items ≡ left_parts old =
+    same_parts c.left_frame.new.frame _ (option_map former_seen c.left_frame.result) _ (map seen c.part.new.tables.items) _ is_frame is_former c.in_ok-gone.ensures.staying in
     let may = ap (λ (ts : List StoredTable). may_not_complete frame (map seen ts)) (sym c.deref.ensures.value) ∙ sym c.in_ok-refusal.ensures ∙ c.in_default.is in
     let step = finishes c.laws_below.ensures old c.requires.stored c.requires.none c.requires.active may in
     record {

@@ -3,8 +3,11 @@ use Rattle.roll_core.proofs.laws.laws_below.Goals as goal
 pub returns : goal.returns
 returns c = record {
   starts = c.tables_stand.ensures.starts;
-  stay = c.tables_stand.ensures.stay;
+  fit = c.created_tables_are_numbered.ensures.fit;
   halves = c.tables_stand.ensures.filled;
+  known = c.tables_stand.ensures.known;
+  both = c.tables_stand.ensures.both;
+  lenses = c.tables_stand.ensures.lenses;
   writes = c.sites_stand.ensures.writes;
   shows = c.sites_stand.ensures.shows;
   shared = c.sites_stand.ensures.shared;

@@ -3,7 +3,7 @@ use Rattle.roll_core.proofs.Steps.{lane_step, runs_lent, same_lent, step_lent, s
 use Rattle.roll_core.proofs.engine.Core.batch.Goals as goal
 
 pub least_fill-requires : goal.least_fill-requires
-least_fill-requires c = runs_lent c.self.inside.frame c.self.inside.former c.self.inside.tables.items c.deref_mut.result.now c.deref_mut.ensures.value c.self.invariant
+least_fill-requires c = runs_lent c.laws_below.ensures c.self.inside.frame c.self.inside.former c.self.inside.tables.items c.deref_mut.result.now c.deref_mut.ensures.value c.self.invariant
 
 pub invariant_of-self : goal.invariant_of-self
 invariant_of-self c =

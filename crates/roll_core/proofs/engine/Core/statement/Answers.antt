@@ -3,7 +3,7 @@ use Rattle.roll_core.proofs.Steps.{lane_step, runs_lent, same_lent, said_looks, 
 use Rattle.roll_core.proofs.engine.Core.statement.Goals as goal
 
 pub answer-requires : goal.answer-requires
-answer-requires c = runs_lent c.self.inside.frame c.self.inside.former c.self.inside.tables.items c.deref_mut.result.now c.deref_mut.ensures.value c.self.invariant
+answer-requires c = runs_lent c.laws_below.ensures c.self.inside.frame c.self.inside.former c.self.inside.tables.items c.deref_mut.result.now c.deref_mut.ensures.value c.self.invariant
 
 pub invariant_of-self : goal.invariant_of-self
 invariant_of-self c =
