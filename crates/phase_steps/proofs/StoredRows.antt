@@ -26,7 +26,7 @@ use Rattle.phase_steps.specs.Rows.{carried_of, carried_values, is_shadow, left_v
 same_type : (a b : Ty) (v : Value) → same a b ≡ true → has_type (Some b) v ≡ true → has_type (Some a) v ≡ true
 same_type a b v s h = grind (arith, nat_tests)
 
-carried_type : (ty : Ty) (others : List Column) (values : List Value) (at : ℕ) → fits_columns others values ≡ true → is_of_type ty (slice_get others at) ≡ true → has_type (Some ty) (slice_index_or values at Null) ≡ true
+pub carried_type : (ty : Ty) (others : List Column) (values : List Value) (at : ℕ) → fits_columns others values ≡ true → is_of_type ty (slice_get others at) ≡ true → has_type (Some ty) (slice_index_or values at Null) ≡ true
 carried_type ty [] values at f t = cc
 carried_type ty (c ∷ cs) [] at f t = cc
 carried_type ty (c ∷ cs) (v ∷ vs) zero f t = same_type ty c.ty v t (both (has_type (Some c.ty) v) (fits_columns cs vs) f).0

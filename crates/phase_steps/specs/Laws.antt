@@ -1,13 +1,17 @@
 -- What the version that stands shows of its stored rows while a migration is completed or rolled back.
-use Rattle.std.specs.Prelude.{◌≡◌, ℕ, true, List, [], Option, Some, None, filter, length, map, unwrap_or}
+use Rattle.std.specs.Prelude.{◌≡◌, ℕ, true, List, [], Option, Some, None, filter, is_some, length, map, unwrap_or}
 use Rattle.sql_base.specs.declared.values.Value.{Value}
+use Rattle.sql_base.specs.declared.values.Value.TheVariants.{Null}
 use Rattle.sql_base.specs.Fit.{row_fits}
 use Rattle.trigger_pair.specs.declared.pairs.Pair.{Pair}
 use Rattle.trigger_pair.specs.Laws.{IsPair}
-use Rattle.trigger_pair.specs.Rows.{IsFilledRow}
-use Rattle.trigger_pair.specs.Stored.{new_view, old_view}
+use Rattle.trigger_pair.specs.Rows.{IsFilledRow, IsPairedRow}
+use Rattle.trigger_pair.specs.Stored.{new_view, old_view, shadow_values}
+use Rattle.phase_steps.specs.declared.phases.Cmd.{Cmd}
+use Rattle.phase_steps.specs.declared.phases.Phase.{Phase}
+use Rattle.phase_steps.specs.Phases.{may, next_step}
 use Rattle.phase_steps.specs.Places.{Place, is_among, named, paired_places, value_in}
-use Rattle.phase_steps.specs.Rows.{IsTrimmedRow, left_row, left_values, restored, trimmed, trimmed_view}
+use Rattle.phase_steps.specs.Rows.{IsReturnedRow, IsTrimmedRow, is_shadow, left_row, left_values, restored, returned_row, trimmed, trimmed_view}
 
 -- A row that is written between C1 and C2, over any row or none, shows the values that were written, and has a value for each place of the layout.
 abbrev pub LeftRowsShow : Type 0
@@ -53,6 +57,44 @@ Selects view places =
     (pair : Pair) (row : List Value) → IsPair pair → length row ≡ length (paired_places pair) →
     view pair row ≡ map (value_in (paired_places pair) row) (places pair)
 
+-- ---- rows that are written after the new version is gone
+
+-- What was stored before, if anything was, is a row of then.
+abbrev pub ReturnedBefore : Pair → Option (List Value) → Type 0
+ReturnedBefore pair None = Unit {0}
+ReturnedBefore pair (Some stored) = IsReturnedRow pair stored
+
+-- A row that is written between B1 and B2, over any such row or none, shows the values that were written, and is such a row.
+abbrev pub ReturnedRowsShow : Type 0
+ReturnedRowsShow =
+    (pair : Pair) (values : List Value) (before : Option (List Value)) → IsPair pair → row_fits pair.old values ≡ true → ReturnedBefore pair before →
+    (old_view pair (returned_row pair.lens values before) ≡ values) × IsReturnedRow pair (returned_row pair.lens values before)
+
+-- What the new version's view selects of a row in columns that aren't carried.
+abbrev pub shadows_shown : Pair → List Value → List Value
+shadows_shown pair row = shadow_values pair.lens.new_cols (new_view pair row)
+
+-- What a row had there before, if there was one; NULLs in a new row.
+abbrev pub shadows_before : Pair → Option (List Value) → List Value
+shadows_before pair None = map (λ cell. Null) (filter is_shadow pair.lens.new_cols)
+shadows_before pair (Some stored) = shadows_shown pair stored
+
+-- A row that is written then has there what it had before.
+abbrev pub ReturnedRowsKeep : Type 0
+ReturnedRowsKeep =
+    (pair : Pair) (values : List Value) (before : Option (List Value)) → IsPair pair → row_fits pair.old values ≡ true → ReturnedBefore pair before →
+    shadows_shown pair (returned_row pair.lens values before) ≡ shadows_before pair before
+
+-- The rows from START on are such rows, so B1 changes none.
+abbrev pub PairedRowsAreReturned : Type 0
+PairedRowsAreReturned = (pair : Pair) (stored : List Value) → IsPair pair → IsPairedRow pair stored → IsReturnedRow pair stored
+
+-- Such a row has a value for each place of the layout.
+abbrev pub ReturnedRowsAreLong : Type 0
+ReturnedRowsAreLong = (pair : Pair) (stored : List Value) → IsPair pair → IsReturnedRow pair stored → length stored ≡ length pair.layout.columns
+
+-- ---- rows that are written after the old version is gone
+
 -- What was stored before, if anything was, is a filled row.
 abbrev pub FilledBefore : Pair → Option (List Value) → Type 0
 FilledBefore pair None = Unit {0}
@@ -66,3 +108,13 @@ LeftRowsAreFilled =
 -- C2 leaves of a filled row the carried values and the shadow values.
 abbrev pub TrimmingLeavesTrimmed : Type 0
 TrimmingLeavesTrimmed = (pair : Pair) (row : List Value) → IsPair pair → IsFilledRow pair row → IsTrimmedRow pair (trimmed pair.lens row)
+
+-- ---- commands and their steps
+
+-- A command that may not come in a phase takes no step.
+abbrev pub RefusedTakeNoStep : Cmd → Type 0
+RefusedTakeNoStep cmd = (phase : Phase) → is_some (may cmd phase) ≡ true → next_step cmd phase ≡ None
+
+-- One that may come takes a step.
+abbrev pub OthersTakeAStep : Cmd → Type 0
+OthersTakeAStep cmd = (phase : Phase) → may cmd phase ≡ None → is_some (next_step cmd phase) ≡ true

@@ -1,7 +1,7 @@
 -- What becomes of the stored rows of a table that both versions have, step by step from START until one version stands alone.
 --
 -- A migration begins with START. From then on both versions stand, and a row is stored as the triggers leave it. It is completed in three steps: C1 drops the old version's views, C2 removes the places that only the old version showed, and C3 puts the places in the order of the new version's columns. It is rolled back in two: B1 drops the new version's views, and B2 removes the places that only the new version showed. Between two steps rows are written by the version that stands. That completing removes the old columns, and that rolling back removes the new ones, is pgroll's (its documentation, How pgroll works); the steps and the rest are our own.
-use Rattle.std.specs.Prelude.{ℕ, ◌+◌, Bool, ◌==◌, false, true, List, [], ◌∷◌, ◌++◌, Option, drop, filter, length, map, slice_index_or, take, unwrap_or, if◌then◌else◌}
+use Rattle.std.specs.Prelude.{ℕ, ◌+◌, Bool, ◌==◌, false, true, List, [], ◌∷◌, ◌++◌, Option, Some, None, drop, filter, length, map, slice_index_or, take, unwrap_or, if◌then◌else◌}
 use Rattle.std.specs.List.{enumerate_from}
 use Rattle.sql_base.specs.declared.shapes.Shape.{Shape}
 use Rattle.sql_base.specs.declared.values.Value.{Value}
@@ -13,7 +13,7 @@ use Rattle.mig_lens.specs.Layout.{has_mark, layout}
 use Rattle.mig_lens.specs.Lens.{is_carry}
 use Rattle.trigger_pair.specs.declared.pairs.Pair.{Pair}
 use Rattle.trigger_pair.specs.Rows.{IsOf}
-use Rattle.trigger_pair.specs.Stored.{begun, mark_value, old_view, shadow_values}
+use Rattle.trigger_pair.specs.Stored.{begun, mark_value, old_view, shadow_values, stored_row}
 
 abbrev pub pair_of : Shape → Shape → Lens → Pair
 pair_of old new lens = record { old = old; new = new; lens = lens; layout = layout old new lens }
@@ -79,6 +79,26 @@ left_values cells values held = map (left_value values held) (enumerate_from 0 c
 -- The stored row of new values that are written between C1 and C2, over the row that was stored, if there was one: an old column that isn't carried keeps the value that it had, or is NULL in a new row. It isn't marked.
 abbrev pub left_row : Lens → List Value → Option (List Value) → List Value
 left_row lens values before = left_values lens.old_cols values (unwrap_or before []) ++ shadow_values lens.new_cols values ++ mark_value (has_mark lens) false
+
+-- ---- a row that is written after the new version is gone
+
+-- What stands behind the old columns in a new row: NULL in each shadow place, and a mark that is false, where there is one.
+abbrev pub no_shadows : Lens → List Value
+no_shadows lens = map (λ cell. Null) (filter is_shadow lens.new_cols) ++ mark_value (has_mark lens) false
+
+-- What stands there over a row that was stored, if there was one: what it had there.
+abbrev pub behind_old : Lens → Option (List Value) → List Value
+behind_old lens None = no_shadows lens
+behind_old lens (Some stored) = drop (length lens.old_cols) stored
+
+-- The stored row of old values that are written between B1 and B2, over the row that was stored, if there was one: the shadow places and the mark keep what they had, and are NULL and false in a new row.
+abbrev pub returned_row : Lens → List Value → Option (List Value) → List Value
+returned_row lens values before = values ++ behind_old lens before
+
+-- Which rows are stored then: of a value for each old column, of a value for each new column those that have a shadow place, and the mark, where there is one, true or false.
+pub record IsReturnedRow (pair : Pair) (stored : List Value) : Type 0 where
+  pub marked : Bool
+  pub is : IsOf pair (λ old new. stored_row pair old new marked) stored
 
 -- ---- the steps
 

@@ -24,7 +24,7 @@ fn is_make(cell: &Cell) -> bool
     }
 }
 
-fn is_shadow(cell: &Cell) -> bool
+pub(crate) fn is_shadow(cell: &Cell) -> bool
     ensures { result ≡ spec.is_shadow cell.now }
 {
     match cell {

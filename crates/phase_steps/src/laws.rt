@@ -1,6 +1,7 @@
 //! The laws of the steps. Each is the contract of a function that does nothing.
-ghost use Rattle.phase_steps.specs.Laws.{CompletedRowsShow, KeepsPlaces, Leaves, LeftRowsAreFilled, LeftRowsKeep, LeftRowsShow, PlacesAreTheLayouts, Selects, TrimmingKeepsView, TrimmingLeavesTrimmed};
+ghost use Rattle.phase_steps.specs.Laws.{CompletedRowsShow, KeepsPlaces, Leaves, LeftRowsAreFilled, LeftRowsKeep, LeftRowsShow, OthersTakeAStep, PairedRowsAreReturned, PlacesAreTheLayouts, RefusedTakeNoStep, ReturnedRowsAreLong, ReturnedRowsKeep, ReturnedRowsShow, Selects, TrimmingKeepsView, TrimmingLeavesTrimmed};
 ghost use Rattle.trigger_pair.specs.Stored.{new_view, old_view};
+ghost use Rattle.phase_steps.specs.declared.phases.Cmd.TheVariants as cmd;
 ghost use Rattle.phase_steps.specs.Places.{completed_places, paired_places, rolled_back_places, trimmed_row_places};
 
 /// A row that is written between C1 and C2 shows the values that were written, and has a value for each place. In an old
@@ -45,11 +46,33 @@ pub fn steps_keep_places()
     trigger_pair::laws::pairs_are_long();
 }
 
-/// A row that is written between C1 and C2 over a filled row or none is a filled row. C2 leaves of a filled row the carried values and the shadow
-/// values, and nothing else: the lost columns and the mark are gone.
+/// A row that is written between C1 and C2 over a filled row or none is a filled row. C2 leaves of a filled row the carried
+/// values and the shadow values, and nothing else: the lost columns and the mark are gone.
 pub fn rows_are_stored_by_the_step()
     ensures left { LeftRowsAreFilled }
     ensures trimmed { TrimmingLeavesTrimmed }
 {
     trigger_pair::laws::pairs_are_long();
 }
+
+/// A row that is written between B1 and B2 over one that is stored then, or over none, shows the values that were written.
+/// In a column of the new version that isn't carried it has what was there before, or NULL. The rows that are stored then
+/// are those from START on and those that such writes leave; each has a value for each place.
+pub fn returned_rows_show_what_was_written()
+    ensures shown { ReturnedRowsShow }
+    ensures kept { ReturnedRowsKeep }
+    ensures begun { PairedRowsAreReturned }
+    ensures long { ReturnedRowsAreLong }
+{
+    trigger_pair::laws::pairs_are_long();
+    trigger_pair::laws::paired_rows_are_long();
+}
+
+/// A step of completing and one of rolling back are taken exactly where nothing stands against them: where `may` has a
+/// refusal `next_step` has no step, and where it has none there is one.
+pub fn refused_commands_take_no_step()
+    ensures completing_refused { RefusedTakeNoStep cmd.Complete }
+    ensures completing_allowed { OthersTakeAStep cmd.Complete }
+    ensures rolling_back_refused { RefusedTakeNoStep cmd.Rollback }
+    ensures rolling_back_allowed { OthersTakeAStep cmd.Rollback }
+{}

@@ -1,5 +1,7 @@
 //! The life of stored rows, against what the rules say of two migrations.
-use crate::{left_row, restore, trimmed, trimmed_view};
+mod phases;
+
+use crate::{left_row, restore, returned_row, trimmed, trimmed_view};
 use mig_lens::{Cell, Lens, Side, layout};
 use sql_base::{Column, Copying, EvalFault, Expr, List, Name, NoMemory, Shape, SqlText, Ty, Value};
 use std::alloc::Global;
@@ -252,5 +254,36 @@ fn a_column_without_up_keeps_its_value(rt: HostRuntime) -> Result<(), Fail> {
     let still = pair(alloc, "id name", "id name age", "0 1 !5", "0 1")?;
     let kept = shown_over(alloc, &still, Side::Old, "1 b", "1 a 9")?;
     assert!(rt; kept.as_str() == "1 b 9", "{kept}");
+    Ok(())
+}
+
+/// What is written, what was stored, and what is stored then, after the new version of the first table is gone.
+const RETURNED: &[(&str, Option<&str>, &str)] = &[
+    ("4 d", None, "4 d NULL false"),
+    ("1 b", Some("1 a NULL true"), "1 b NULL true"),
+    ("2 c", Some("2 b 40 false"), "2 c 40 false"),
+];
+
+#[test]
+fn a_row_that_is_written_late_keeps_its_shadows(rt: HostRuntime) -> Result<(), Fail> {
+    let alloc = rt.alloc();
+    let added = added(alloc)?;
+    for (values, before, wanted) in RETURNED {
+        let values = row(alloc, values)?;
+        let made = match before {
+            None => returned_row(alloc, &added.lens, values.as_slice(), None)?,
+            Some(words) => {
+                let stored = row(alloc, words)?;
+                returned_row(
+                    alloc,
+                    &added.lens,
+                    values.as_slice(),
+                    Some(stored.as_slice()),
+                )?
+            }
+        };
+        let found = shown(alloc, made.as_slice())?;
+        assert!(rt; found.as_str() == *wanted, "{found}");
+    }
     Ok(())
 }
