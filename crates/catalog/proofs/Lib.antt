@@ -1,3 +1,4 @@
+pub mod Constraints
 pub mod Named
 pub mod Positions
 pub mod Shown

@@ -1,5 +1,5 @@
--- What a view names, and what stands where it finds its columns.
-use Rattle.std.specs.Prelude.{◌≡◌, ◌<◌, ℕ, List, Some, length, map, slice_index_or}
+-- What a view names, what stands where it finds its columns, and which constraints are valid.
+use Rattle.std.specs.Prelude.{◌≡◌, ◌<◌, ℕ, Bool, true, false, List, Some, length, map, slice_index_or}
 use Rattle.std.specs.List.{AllByRecursion}
 use Rattle.sql_base.specs.declared.values.Value.{Value}
 use Rattle.sql_base.specs.declared.values.Value.TheVariants.{Null}
@@ -14,6 +14,7 @@ use Rattle.phase_steps.specs.Rows.{trimmed_view}
 use Rattle.catalog.specs.declared.versions.Known.{Known}
 use Rattle.catalog.specs.declared.versions.Stage.{Stage}
 use Rattle.catalog.specs.declared.versions.Stage.TheVariants.{Calm, Both, AfterFirst, AfterSecond, RolledBack}
+use Rattle.catalog.specs.Valid.{has_constraint, is_constraint, valid}
 use Rattle.catalog.specs.Versions.{table_on}
 use Rattle.catalog.specs.Views.{pair_in, pair_positions, row_places, selected, view_of}
 
@@ -65,3 +66,25 @@ PositionsFindShown =
     (stage : Stage) (side : Side) (pair : Pair) (row : List Value) → IsPair pair →
     length row ≡ length (row_places stage pair) →
     values_at row (pair_positions stage side pair) ≡ shown stage side pair row
+
+-- ---- constraints
+
+-- Whether a migration is active.
+abbrev pub is_active : Stage → Bool
+is_active (Both name schema fates) = true
+is_active Calm = false
+is_active (AfterFirst lost fates) = false
+is_active (AfterSecond lost fates) = false
+is_active (RolledBack lost fates) = false
+
+-- While none is active each constraint of the version that stands is valid.
+abbrev pub ValidWhileCalm : Type 0
+ValidWhileCalm =
+    (known : Known) (number : ℕ) (name : List ℕ) → is_active known.stage ≡ false → is_constraint known number name ≡ true →
+    valid known number name ≡ Some true
+
+-- A constraint of the old version is valid at any stage.
+abbrev pub OldConstraintsStayValid : Type 0
+OldConstraintsStayValid =
+    (known : Known) (number : ℕ) (name : List ℕ) → has_constraint (table_on known Old number) name ≡ true →
+    valid known number name ≡ Some true

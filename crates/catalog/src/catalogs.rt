@@ -1,11 +1,13 @@
 //! The catalog.
 ghost use Rattle.std.specs.Prelude.{◌≡◌, true, IfOk};
 ghost use Rattle.std.specs.Option.{option_copied};
+ghost use Rattle.catalog.specs.Valid as validities;
 ghost use Rattle.catalog.specs.Versions as versions;
 ghost use Rattle.catalog.specs.Views as views;
 ghost use Rattle.catalog.specs.Widths.{is_narrow};
 
 use crate::finding::table_of;
+use crate::validity::valid;
 use crate::versions::{Known, View};
 use crate::viewing::views_on;
 use indexmap::IndexMap;
@@ -75,5 +77,17 @@ impl Catalog {
             Side::Old => self.old.get(&table),
             Side::New => self.new.get(&table),
         }
+    }
+
+    /// Whether the constraint of a name is valid in the table of a number: whether all rows are known to meet it. It isn't
+    /// exactly where the active migration made it in a table that both versions have and that gets no fill; the first step
+    /// of completing looks at the rows.
+    ///
+    /// A name with `_pkey` behind the table's is that of the key's constraint. `None` where no version that stands has a
+    /// constraint of this name in the table. It takes no memory.
+    pub fn valid(&self, table: u32, constraint: &Name) -> Option<bool>
+        ensures { result ≡ validities.valid self.now table constraint.now }
+    {
+        valid(&self.known, table, constraint)
     }
 }

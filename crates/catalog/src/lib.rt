@@ -7,6 +7,7 @@ mod finding;
 pub mod laws;
 mod pairs;
 mod places;
+mod validity;
 mod versions;
 mod viewing;
 mod widths;

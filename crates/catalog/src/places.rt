@@ -49,7 +49,7 @@ fn is_make(cell: &Cell) -> bool
     }
 }
 
-fn has_mark(lens: &Lens) -> bool
+pub(crate) fn has_mark(lens: &Lens) -> bool
     ensures { result ≡ layouts.has_mark lens.now }
 {
     lens.new_cols.as_slice().iter().any(|cell| is_make(cell))

@@ -1,7 +1,7 @@
 //! What a path finds and where a view finds its columns, at each stage of one migration.
 use catalog::{Catalog, Known, Stage, View};
 use mig_lens::{Cell, Fate, Lens, Side};
-use sql_base::{Column, Expr, List, Name, Schema, Shape, Ty, Value};
+use sql_base::{Check, Column, Expr, List, Name, Schema, Shape, Ty, Unique, Value};
 use std::alloc::Global;
 use std::test::Fail;
 
@@ -9,23 +9,49 @@ fn name(alloc: Global, word: &str) -> Result<Name, Fail> {
     Ok(Name::from_slice(alloc, word.as_bytes())?)
 }
 
-/// A shape with these bigint columns, the first of which is the key.
-fn shape(alloc: Global, words: &str) -> Result<Shape, Fail> {
+fn column(alloc: Global, word: &str) -> Result<Column, Fail> {
+    Ok(Column {
+        name: name(alloc, word)?,
+        ty: Ty::Bigint,
+        nullable: word != "id",
+        default: Value::Null,
+    })
+}
+
+fn check(alloc: Global, word: &str) -> Result<Check, Fail> {
+    Ok(Check {
+        name: name(alloc, word)?,
+        expr: Expr::Lit(Value::Bool(true)),
+    })
+}
+
+/// On the second column.
+fn unique(alloc: Global, word: &str) -> Result<Unique, Fail> {
     let mut columns = List::new(alloc);
-    for word in words.split(' ') {
-        columns.push(Column {
-            name: name(alloc, word)?,
-            ty: Ty::Bigint,
-            nullable: word != "id",
-            default: Value::Null,
-        })?;
-    }
-    Ok(Shape {
+    columns.push(1)?;
+    Ok(Unique {
+        name: name(alloc, word)?,
         columns,
+    })
+}
+
+/// A shape with these bigint columns, the first of which is the key. A word with `?` in front is a check's name, and one
+/// with `=` that of a unique constraint.
+fn shape(alloc: Global, words: &str) -> Result<Shape, Fail> {
+    let mut shape = Shape {
+        columns: List::new(alloc),
         key: 0,
         checks: List::new(alloc),
         uniques: List::new(alloc),
-    })
+    };
+    for word in words.split(' ') {
+        match (word.strip_prefix('?'), word.strip_prefix('=')) {
+            (Some(word), _) => shape.checks.push(check(alloc, word)?)?,
+            (None, Some(word)) => shape.uniques.push(unique(alloc, word)?)?,
+            (None, None) => shape.columns.push(column(alloc, word)?)?,
+        }
+    }
+    Ok(shape)
 }
 
 fn schema(alloc: Global, tables: &[(&str, u32, &str)]) -> Result<Schema, Fail> {
@@ -58,31 +84,43 @@ fn cells(alloc: Global, words: &str) -> Result<List<Cell>, Fail> {
     Ok(cells)
 }
 
-/// The tables before the migration. It makes users into people, drops logs and creates tags.
+/// The tables before the migration. It makes users into people, drops logs, creates tags, and adds constraints to items.
 fn before(alloc: Global) -> Result<Schema, Fail> {
     schema(
         alloc,
-        &[("users", 1, "id name nick"), ("logs", 2, "id line")],
+        &[
+            ("users", 1, "id name nick =names"),
+            ("logs", 2, "id line ?short"),
+            ("items", 4, "id size ?sized"),
+        ],
     )
 }
 
 fn after(alloc: Global) -> Result<Schema, Fail> {
     schema(
         alloc,
-        &[("people", 1, "id age title rank"), ("tags", 3, "id tag")],
+        &[
+            ("people", 1, "id age title rank =names ?aged"),
+            ("tags", 3, "id tag ?tagged"),
+            ("items", 4, "id size ?sized ?small =alone"),
+        ],
     )
 }
 
-/// The column title carries name, age is made, rank is a constant, and nick is lost.
+fn kept(alloc: Global, new_cols: &str, old_cols: &str) -> Result<Fate, Fail> {
+    Ok(Fate::Kept(Lens {
+        new_cols: cells(alloc, new_cols)?,
+        old_cols: cells(alloc, old_cols)?,
+    }))
+}
+
+/// The column title carries name, age is made, rank is a constant, and nick is lost. Items are as they were.
 fn fates(alloc: Global) -> Result<List<(u32, Fate)>, Fail> {
-    let lens = Lens {
-        new_cols: cells(alloc, "0 # 1 !")?,
-        old_cols: cells(alloc, "0 2 !")?,
-    };
     let mut fates = List::new(alloc);
-    fates.push((1, Fate::Kept(lens)))?;
+    fates.push((1, kept(alloc, "0 # 1 !", "0 2 !")?))?;
     fates.push((2, Fate::Dropped))?;
     fates.push((3, Fate::Created))?;
+    fates.push((4, kept(alloc, "0 1", "0 1")?))?;
     Ok(fates)
 }
 
@@ -233,6 +271,40 @@ const FOUND: &[(&str, &str, &str, &str)] = &[
     ),
     ("B1 done", "public_02_people", "tags", "none"),
 ];
+
+/// At a stage, a table's number and a constraint's name: whether it is valid.
+const VALID: &[(&str, u32, &str, Option<bool>)] = &[
+    ("calm", 4, "small", None),
+    ("both", 4, "small", Some(false)),
+    ("C1 done", 4, "small", Some(true)),
+    ("completed", 4, "small", Some(true)),
+    ("B1 done", 4, "small", None),
+    ("both", 4, "alone", Some(false)),
+    ("both", 4, "sized", Some(true)),
+    ("both", 4, "items_pkey", Some(true)),
+    ("both", 4, "pkey", None),
+    ("both", 4, "large", None),
+    ("both", 5, "small", None),
+    ("both", 1, "aged", Some(true)),
+    ("both", 1, "names", Some(true)),
+    ("both", 1, "users_pkey", Some(true)),
+    ("both", 1, "people_pkey", Some(true)),
+    ("C1 done", 1, "users_pkey", None),
+    ("both", 2, "short", Some(true)),
+    ("C1 done", 2, "short", None),
+    ("both", 3, "tagged", Some(true)),
+];
+
+#[test]
+fn a_constraint_is_valid_once_all_rows_are_known_to_meet_it(rt: HostRuntime) -> Result<(), Fail> {
+    let alloc = rt.alloc();
+    for (word, table, constraint, wanted) in VALID {
+        let catalog = catalog_at(alloc, word)?.ok_or("narrow tables")?;
+        let found = catalog.valid(*table, &name(alloc, constraint)?);
+        assert!(rt; found == *wanted, "{word} {table} {constraint}");
+    }
+    Ok(())
+}
 
 #[test]
 fn a_view_finds_its_columns_at_each_stage(rt: HostRuntime) -> Result<(), Fail> {
