@@ -15,4 +15,4 @@ mod validation;
 pub use clashes::{Keyed, are_alike, clash, with_least};
 pub use faults::{check_fault, check_row, null_at};
 pub use names::{broken_name, not_null_name};
-pub use validation::validate;
+pub use validation::{uniques_broken, validate};

@@ -79,8 +79,9 @@ fn unique_broken(
     }
 }
 
-// The same of the first unique constraint that has such a key.
-fn uniques_broken(
+/// The first of these unique constraints that rows don't meet, with the least key that has an equal; or none. An error
+/// is want of memory.
+pub fn uniques_broken(
     alloc: Global,
     uniques: &[Unique],
     rows: &[Keyed],

@@ -1,9 +1,13 @@
 // Constraints over rows, and indexes of values, against tables of what the rules say.
-ghost use Rattle.std.specs.Prelude.{◌≤◌, length, IfOk};
+ghost use Rattle.std.specs.Prelude.{◌≡◌, ◌≤◌, length, IfOk};
+ghost use Rattle.row_rules.specs.Rows.{Ascends};
 ghost use Rattle.sql_eval.specs.Shape.{max_columns};
 
-use crate::put;
+use crate::{change, put};
 use constraint::{Keyed, check_row, clash, validate};
+use mig_lens::Side;
+use row_index::SideIndex;
+use row_rules::{Change, Halves, Kept};
 use sql_base::{
     BinOp, Check, Column, EvalFault, Expr, List, Name, NoMemory, RowFault, Shape, SqlText, Ty,
     Unique, Value,
@@ -310,5 +314,96 @@ fn a_removed_key_clashes_no_more(rt: HostRuntime) -> Result<(), Fail> {
     assert!(rt; index.remove(3).is_some() && index.remove(3).is_none());
     assert_eq!(rt; index.clash(x.as_slice(), 4), None);
     assert!(rt; index.remove(2).is_some() && index.remove(7).is_none());
+    Ok(())
+}
+
+fn half(alloc: Global, words: Option<&str>) -> Result<Option<List<Value>>, Fail> {
+    match words {
+        Some(words) => Ok(Some(values(alloc, words)?)),
+        None => Ok(None),
+    }
+}
+
+fn kept(alloc: Global, key: i64, old: &str, new: Option<&str>) -> Result<Kept, Fail>
+    ensures { IfOk result (λ row. row.key ≡ key) }
+{
+    let halves = Halves {
+        old: half(alloc, Some(old))?,
+        new: half(alloc, new)?,
+    };
+    Ok(Kept {
+        key,
+        halves,
+        lost: 0,
+    })
+}
+
+// Rows 1 to 3, of which the second misses its new half.
+fn three_rows(alloc: Global) -> Result<List<Kept>, Fail>
+    ensures { IfOk result Ascends }
+{
+    let one = kept(alloc, 1, "1 a x", Some("1 a y"))?;
+    let two = kept(alloc, 2, "2 b x", None)?;
+    let three = kept(alloc, 3, "3 c z", Some("3 c z"))?;
+    let mut rows = List::new(alloc);
+    rows.push(one)?;
+    rows.push(two)?;
+    rows.push(three)?;
+    Ok(rows)
+}
+
+// Row 1 gets another code, row 2 its new half, row 3 goes, and row 4 comes.
+fn four_changes(alloc: Global) -> Result<List<Change>, Fail> {
+    let mut changes = List::new(alloc);
+    changes.push(Change::Put(kept(alloc, 1, "1 a x", Some("1 a w"))?))?;
+    changes.push(Change::Put(kept(alloc, 2, "2 b x", Some("2 b x"))?))?;
+    changes.push(Change::Remove(3))?;
+    changes.push(Change::Put(kept(alloc, 4, "4 d v", None)?))?;
+    Ok(changes)
+}
+
+// For each code from v to z whether a row other than these has it.
+fn codes_of_others(
+    alloc: Global,
+    index: &SideIndex,
+    code: &Unique,
+    keys: &[i64],
+) -> Result<String, Fail> {
+    let mut found = String::new(alloc);
+    for word in ["v", "w", "x", "y", "z", "NULL"] {
+        let half = values(alloc, "0 NULL")?;
+        let mut half = half;
+        half.push(value(alloc, word)?)?;
+        if index.other_alike(0, code, half.as_slice(), keys) {
+            found.push_str(word)?;
+        }
+    }
+    Ok(found)
+}
+
+#[test]
+fn the_indexes_of_a_side_change_as_its_rows_do(rt: HostRuntime) -> Result<(), Fail> {
+    let alloc = rt.alloc();
+    let of = uniques(alloc, "code")?;
+    let code = unique(alloc, "code")?;
+    let rows = three_rows(alloc)?;
+    let changes = four_changes(alloc)?;
+    let (of, rows, changes) = (of.as_slice(), rows.as_slice(), changes.as_slice());
+    for (side, before, others, after) in [
+        (Side::Old, "xz", "xz", "vx"),
+        (Side::New, "yz", "z", "wx"),
+    ] {
+        let mut index = SideIndex::build(alloc, of, side, &rows)?;
+        assert_eq!(rt;
+            codes_of_others(alloc, &index, &code, &[])?.as_str(),
+            before
+        );
+        assert_eq!(rt;
+            codes_of_others(alloc, &index, &code, &[1])?.as_str(),
+            others
+        );
+        change(alloc, &mut index, of, side, rows, changes)?;
+        assert_eq!(rt; codes_of_others(alloc, &index, &code, &[])?.as_str(), after);
+    }
     Ok(())
 }

@@ -76,7 +76,7 @@ filter_ascends p (row ∷ rows) h = by_test (filter_ascends p rows (ascends_rest
 
 -- ---- changes
 
-change_ascends : (change : Change) (rows : List Kept) → Ascends rows → Ascends (after_change change rows)
+pub change_ascends : (change : Change) (rows : List Kept) → Ascends rows → Ascends (after_change change rows)
 change_ascends (Put row) rows h = put_ascends row rows h
 change_ascends (Remove key) rows h = filter_ascends (λ row. not (int_eq row.key key)) rows h
 

@@ -1,5 +1,6 @@
 pub mod Ascending
 pub mod Asking
+pub mod Beside
 pub mod Calls
 pub mod Clashing
 pub mod KeyForms
@@ -12,3 +13,4 @@ pub mod Places
 pub mod Reaching
 pub mod ShownKeys
 pub mod Uniques
+pub mod Validity

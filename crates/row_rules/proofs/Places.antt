@@ -1,9 +1,9 @@
 -- Rows from a place on, where what is asked of the row at that place is known.
-use Rattle.std.proofs.Common.{◌≡◌, ℕ, zero, suc, ◌+◌, ◌-◌, ◌<◌, ◌≤◌, ◌++◌, ℤ, List, [], ◌∷◌, Bool, true, false, ◌||◌, cond, Option, Some, drop, length, map, refl, ap, append_assoc, length-append, take, arith, add-one}
+use Rattle.std.proofs.Common.{◌≡◌, ℕ, zero, suc, ◌+◌, ◌-◌, ◌<◌, ◌≤◌, ◌++◌, ℤ, List, [], ◌∷◌, Bool, true, false, ◌||◌, cond, Option, Some, drop, length, map, refl, ap, subst, sym, append_assoc, length-append, take, arith, add-one, int_cmp, Less}
 use Rattle.std.specs.Prelude.{is_none, slice_get}
 use Rattle.std.specs.List.{filter, list_any}
 use Rattle.std.specs.Option.{option_map}
-use Rattle.row_rules.specs.Rows.{missing_keys}
+use Rattle.row_rules.specs.Rows.{Ascends, missing_keys}
 use Rattle.row_rules.specs.Site.{is_missing}
 use Rattle.row_rules.specs.Words.{Kept}
 
@@ -77,3 +77,23 @@ here rows at row within is =
     let first = at_place rows at within in
     let same : first.0 ≡ row = some_same first.0 row cc in
     rw (← same) first.1
+
+-- ---- rows that ascend from a place on
+
+pub ascends_last : (rows : List Kept) (at : ℕ) → length rows ≤ at + 1 → Ascends (drop at rows)
+ascends_last [] zero h = tt
+ascends_last [] (suc n) h = tt
+ascends_last (row ∷ []) zero h = tt
+ascends_last (row ∷ next ∷ rows) zero h = absurd (omega arith)
+ascends_last (row ∷ rows) (suc n) h = ascends_last rows n (omega arith)
+
+pub ascends_earlier : (rows : List Kept) (at : ℕ) (key next : ℤ) → at + 1 < length rows → option_map (λ row. row.key) (slice_get rows at) ≡ Some key
+    → option_map (λ row. row.key) (slice_get rows (at + 1)) ≡ Some next → int_cmp key next ≡ Less → Ascends (drop (at + 1) rows) → Ascends (drop at rows)
+ascends_earlier rows at key next within of_key of_next less after =
+    let first = at_place rows at (omega arith) in
+    let second = at_place rows (at + 1) within in
+    let here : first.0.key ≡ key = some_same first.0.key key (rw first.2 at of_key) in
+    let there : second.0.key ≡ next = some_same second.0.key next (rw second.2 at of_next) in
+    let ordered : int_cmp first.0.key second.0.key ≡ Less = rw (here, there) less in
+    subst Ascends (sym first.1)
+    (subst (λ rest. Ascends (first.0 ∷ rest)) (sym second.1) (ordered, subst Ascends second.1 after))

@@ -1,10 +1,11 @@
 -- Which written rows are accepted.
 --
 -- That a row with NULL in a NOT NULL column, with a check that is false, with a key that another row has, or with the same values, none of them NULL, as another row in the columns of a unique constraint isn't accepted: PostgreSQL manual, 5.4 Constraints. That it has to be accepted by both versions, and the order of these causes, are our own.
-use Rattle.std.specs.Prelude.{ℕ, ◌+◌, ℤ, List, Bool, false, ◌||◌, Option, Some, None, Result, is_some, length, map, nat_lt, sum_by, if◌then◌else◌}
+use Rattle.std.specs.Prelude.{ℕ, ◌+◌, ℤ, List, Bool, false, not, ◌&&◌, ◌||◌, Option, Some, None, Result, is_some, length, map, nat_lt, sum_by, if◌then◌else◌}
 use Rattle.std.specs.List.{filter, filter_map, list_any}
 use Rattle.std.specs.Option.{option_and_then, option_map, option_map_or, option_or}
 use Rattle.std.specs.Ordering.{int_eq}
+use Rattle.sql_eval.specs.Row.{all_alike, values_of}
 use Rattle.row_rules.specs.Causes.{constraint_cause, heavy_cause, max_weight, row_cause, taken_key}
 use Rattle.row_rules.specs.Outcome.{first_some, without}
 use Rattle.row_rules.specs.Site.{Site, half, other, shape_of}
@@ -62,6 +63,11 @@ key_cause table older new = option_map (taken_key table) (least (filter (is_take
 -- The halves of a side that there are, by key.
 abbrev pub present : Side → List Kept → List (ℤ × List Value)
 present side rows = filter_map (λ row. option_map (λ values. (row.key, values)) (half side row.halves)) rows
+
+-- Whether a row has none of these keys, and in its half of this side values like these, none of them NULL, in the columns of the unique constraint.
+abbrev pub other_alike : Unique → Side → List Value → List ℤ → Kept → Bool
+other_alike unique side values keys row =
+    option_map_or (λ others. not (list_any (int_eq row.key) keys) && all_alike (values_of unique values) (values_of unique others)) (half side row.halves) false
 
 -- Whether the row of this key has the values of another one.
 abbrev pub has_clash : Unique → List (ℤ × List Value) → ℤ → Bool

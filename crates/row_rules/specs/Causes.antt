@@ -1,10 +1,10 @@
 -- Why rows and statements aren't accepted: codes, names of constraints, and limits.
 --
 -- The codes are PostgreSQL's (manual, Appendix A); which of them some refusals carry, the names of constraints and the limits are our own.
-use Rattle.std.specs.Prelude.{ℕ, ℤ, List, ◌++◌, Option, Some, None, codes, slice_get}
-use Rattle.std.specs.Option.{option_map_or}
+use Rattle.std.specs.Prelude.{ℕ, ℤ, List, Option, Some, None, codes}
+use Rattle.constraint.specs.Names as names
 use Rattle.row_rules.specs.Site.{name_of, shape_of}
-use Rattle.row_rules.specs.Words.{BadText, C22003, C22012, C22P02, C23502, C23505, C23514, C42601, C42703, C42804, C53200, C54000, Cause, Code, DivZero, EvalFault, NoMemory, Range, RowFault, Shape, SqlError, Table, TooLong, TypeFault, key_name}
+use Rattle.row_rules.specs.Words.{BadText, C22003, C22012, C22P02, C23502, C23505, C23514, C42601, C42703, C42804, C53200, C54000, Cause, Code, DivZero, EvalFault, NoMemory, Range, RowFault, SqlError, Table, TooLong, TypeFault, key_name}
 use Rattle.row_rules.specs.Words.row_fault_of
 use Rattle.row_rules.specs.Words.type_fault
 
@@ -50,21 +50,22 @@ constraint_cause code name key = record { code = code; name = Some name; key = k
 abbrev pub value_cause : ℤ → EvalFault → Cause
 value_cause key fault = record { code = fault_code fault; name = fault_name fault; key = key }
 
-abbrev pub column_name : Shape → ℕ → List ℕ
-column_name shape at = option_map_or (λ column. column.name) (slice_get shape.columns at) (codes "")
-
-abbrev pub check_name : Shape → ℕ → List ℕ
-check_name shape at = option_map_or (λ check. check.name) (slice_get shape.checks at) (codes "")
-
 -- The name of a column's NOT NULL constraint.
 abbrev pub not_null_name : Table → ℕ → List ℕ
-not_null_name table at = name_of table ++ (codes "_" ++ (column_name (shape_of table) at ++ codes "_not_null"))
+not_null_name table at = names.not_null_name (name_of table) (shape_of table) at
+
+-- The name of the constraint of this table that a row doesn't meet, by the row's fault.
+abbrev pub broken_name : Table → RowFault → List ℕ
+broken_name table fault = names.broken_name (name_of table) (shape_of table) fault
+
+abbrev pub row_code : RowFault → Code
+row_code (row_fault_of.Null at) = C23502
+row_code (row_fault_of.Check at) = C23514
+row_code (row_fault_of.Eval at fault) = fault_code fault
 
 -- A fault of a row of this table, with the constraint's name; so too where a check has no value.
 abbrev pub row_cause : Table → ℤ → RowFault → Cause
-row_cause table key (row_fault_of.Null at) = constraint_cause C23502 (not_null_name table at) key
-row_cause table key (row_fault_of.Check at) = constraint_cause C23514 (check_name (shape_of table) at) key
-row_cause table key (row_fault_of.Eval at fault) = constraint_cause (fault_code fault) (check_name (shape_of table) at) key
+row_cause table key fault = constraint_cause (row_code fault) (broken_name table fault) key
 
 -- A half of the row is too heavy.
 abbrev pub heavy_cause : ℤ → Cause

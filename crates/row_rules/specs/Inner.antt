@@ -1,30 +1,31 @@
 -- What the layer's own steps stand for. No public contract rests on these words.
-use Rattle.std.specs.Prelude.{◌≡◌, ℕ, ℤ, List, [], Bool, false, not, ◌&&◌, ◌||◌, Option, Some, None, Result, Ok, length, map, nat_lt, unwrap_or, if◌then◌else◌}
+use Rattle.std.specs.Prelude.{◌≡◌, ℕ, ℤ, List, [], Bool, false, not, ◌&&◌, ◌||◌, Option, Some, Result, Ok, length, map, nat_lt, unwrap_or}
 use Rattle.std.specs.Borrow.{Bor}
 use Rattle.std.specs.Fn.{FnReturnsAt, Shared}
-use Rattle.std.specs.Int.{int_min}
 use Rattle.std.specs.List.{filter, list_any}
-use Rattle.std.specs.Option.{option_map_or}
+use Rattle.std.specs.Map.{lookup}
+use Rattle.std.specs.Option.{option_and_then, option_map, option_map_or, option_or}
 use Rattle.std.specs.Ordering.{int_eq}
 use Rattle.std.specs.Str.{bytes_eq}
+use Rattle.constraint.specs.Valid.{row_broken, unique_broken, with_least}
 use Rattle.sql_base.specs.Outcome.{Gives}
 use Rattle.sql_base.specs.declared.faults.EvalFault.TheVariants as eval_fault
 use Rattle.sql_base.specs.declared.memory.NoMemory.{NoMemory}
 use Rattle.sql_eval.specs.Row.{all_alike, least, values_of}
-use Rattle.row_rules.specs.Accept.{clashes, clashes_on, is_taken, keys_of, row_weight}
-use Rattle.row_rules.specs.Causes.{row_error, value_cause}
+use Rattle.row_rules.specs.Accept.{clashes, clashes_on, is_taken, keys_of, other_alike, present, row_weight, table_there}
+use Rattle.row_rules.specs.Causes.{broken_name, constraint_cause, row_code, row_error, value_cause}
 use Rattle.row_rules.specs.Changes.{after_changes, altered, keys_changed, matching, passes, put_all}
 use Rattle.row_rules.specs.Outcome.{Answers, first_some, guarded, map_fault, without}
 use Rattle.row_rules.specs.Settle.{condition_error, null_key, row_completed, row_of_values_error, rows_valued}
 use Rattle.row_rules.specs.Show.{picked, row_asked}
-use Rattle.row_rules.specs.Site.{Site, half, halves_on, other_half, shape_of, shown, touched}
-use Rattle.row_rules.specs.Words.{Cause, Change, EvalFault, Expr, Halves, Items, Job, Kept, New, Put, Remove, Shape, Side, SqlError, Table, Unique, Value, and_then, every}
+use Rattle.row_rules.specs.Site.{Site, half, halves_on, name_of, other, other_half, shape_of, shown, touched}
+use Rattle.row_rules.specs.Words.{C23505, Cause, Change, Code, EvalFault, Expr, Halves, Items, Job, Kept, New, Put, Remove, Shape, Side, SqlError, Table, Unique, Value, and_then, every, row_fault}
 use Rattle.row_rules.specs.Words.job
 use Rattle.row_rules.specs.declared.stops.Stop.{Stop}
 
--- The least key, where this one counts or doesn't beside the least of others.
-abbrev pub with_least : ℤ → Bool → Option ℤ → Option ℤ
-with_least key counts least = if counts then Some (elim least [ None ↦ key | Some l ↦ int_min key l ]) else least
+-- What a half of a row of this table doesn't meet: the code and the constraint's name.
+abbrev pub half_fault : Table → List Value → Option (Code × List ℕ)
+half_fault table values = option_map (λ fault. (row_code fault, broken_name table fault)) (row_fault (shape_of table) values)
 
 -- Whether a row isn't that of this key, and has these values in the columns of a unique constraint.
 abbrev pub other_has : Unique → Side → ℤ → List Value → Kept → Bool
@@ -80,6 +81,14 @@ passed_asked site items room row = and_then (row_asked site items room row) (λ 
 
 -- ---- COMPLETE
 
+-- The constraint that a row's new half doesn't meet, with the key.
+abbrev pub half_broken : Table → Kept → Option (List ℕ × ℤ)
+half_broken table row = option_and_then (λ values. row_broken (name_of table) (shape_of table) (row.key, values)) row.halves.new
+
+-- The first unique constraint with the least key that has an equal.
+abbrev pub uniques_broken : Table → List Kept → Option (List ℕ × ℤ)
+uniques_broken table rows = first_some (unique_broken (present New rows)) (shape_of table).uniques
+
 abbrev pub new_clash : Table → List Kept → Option Cause
 new_clash table rows = clashes_on (Some table) New rows (keys_of rows)
 
@@ -106,6 +115,26 @@ rows_placed table places rows = guarded (first_some (row_of_values_error (shape_
 
 abbrev pub without_key : ℤ → List Kept → List Kept
 without_key key rows = filter (λ row. not (int_eq row.key key)) rows
+
+-- Whether the row of this key among the written ones has the values of another written one, or of an older one of none of these keys.
+abbrev pub clashes_beside : Unique → Side → List Kept → List Kept → List ℤ → ℤ → Bool
+clashes_beside unique side written older keys key =
+    option_map_or (λ values. list_any (other_has unique side key values) written || list_any (other_alike unique side values keys) older) (lookup (int_eq key) (present side written)) false
+
+abbrev pub least_beside : Unique → Side → List Kept → List Kept → List ℤ → Option ℤ
+least_beside unique side written older keys = least (filter (clashes_beside unique side written older keys) keys)
+
+abbrev pub unique_beside : Side → List Kept → List Kept → List ℤ → Unique → Option Cause
+unique_beside side written older keys unique =
+    option_map (constraint_cause C23505 unique.name) (least_beside unique side written older keys)
+
+abbrev pub on_beside : Option Table → Side → List Kept → List Kept → List ℤ → Option Cause
+on_beside table side written older keys =
+    option_and_then (λ table. first_some (unique_beside side written older keys) (shape_of table).uniques) table
+
+abbrev pub all_beside : Site → List Kept → List Kept → List ℤ → Option Cause
+all_beside site written older keys =
+    option_or (on_beside (Some site.here) site.side written older keys) (on_beside (table_there site) (other site.side) written older keys)
 
 -- The least taken key, where that of a change is looked at beside the least of others.
 abbrev pub with_change : (ℤ → Bool) → Change → Option ℤ → Option ℤ

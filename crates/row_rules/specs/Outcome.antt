@@ -1,6 +1,6 @@
 -- How a step that may be refused goes on, and how a call answers what a definition comes to.
-use Rattle.std.specs.Prelude.{◌≡◌, Option, Some, None, Result, Ok, Err, List, [], ◌∷◌}
-use Rattle.std.specs.Option.{option_or}
+use Rattle.std.specs.Prelude.{◌≡◌, Option, Some, None, Result, Ok, Err}
+pub use Rattle.constraint.specs.Valid.{first_some}
 use Rattle.row_rules.specs.declared.stops.Stop.{Stop}
 use Rattle.row_rules.specs.declared.stops.Stop.TheVariants.{Because, NoMemory}
 
@@ -18,11 +18,6 @@ guarded (Some fault) next = Err fault
 abbrev pub map_fault : {T E F : Type 0} → (E → F) → Result T E → Result T F
 map_fault of (Ok value) = Ok value
 map_fault of (Err fault) = Err (of fault)
-
--- The first that there is, of these in their order.
-abbrev pub first_some : {A B : Type 0} → (A → Option B) → List A → Option B
-first_some of [] = None
-first_some of (x ∷ xs) = option_or (of x) (first_some of xs)
 
 -- The call answers what is wanted, value or cause, and may answer want of memory in its place.
 abbrev pub Answers : {T E : Type 0} → Result T E → Result T (Stop E) → Type 0

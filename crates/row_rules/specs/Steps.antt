@@ -1,10 +1,12 @@
 -- What a migration's start and its completion look at in the rows of one table, and what they leave of each row.
-use Rattle.std.specs.Prelude.{List, Bool, false, Option, Some, None, nat_lt, if◌then◌else◌}
+use Rattle.std.specs.Prelude.{ℕ, ℤ, List, Bool, false, Option, Some, None, nat_lt, if◌then◌else◌}
 use Rattle.std.specs.List.{list_any}
 use Rattle.std.specs.Option.{option_and_then, option_map, option_map_or, option_or}
-use Rattle.row_rules.specs.Accept.{clashes_on, half_cause, keys_of}
+use Rattle.constraint.specs.Valid as valid
+use Rattle.row_rules.specs.Accept.{clashes_on, half_cause, keys_of, present}
 use Rattle.row_rules.specs.Causes.{max_weight}
 use Rattle.row_rules.specs.Outcome.{first_some}
+use Rattle.row_rules.specs.Site.{name_of, shape_of}
 use Rattle.row_rules.specs.Words.{Cause, Kept, Lens, New, Table, Value, has_mark, unfilled, weight}
 
 -- ---- the start
@@ -25,6 +27,10 @@ abbrev pub show_heavy : Lens → List Kept → Bool
 show_heavy lens rows = list_any (shows_heavy lens) rows
 
 -- ---- the completion
+
+-- The constraint that the new halves of rows don't meet, with a key: the first fault of one, by the rows' order; else the first unique constraint with the least key that has an equal.
+abbrev pub invalid : Table → List Kept → Option (List ℕ × ℤ)
+invalid table rows = valid.invalid (name_of table) (shape_of table) (present New rows)
 
 -- The first fault of a new half, by the rows' order.
 abbrev pub new_half_cause : Table → Kept → Option Cause

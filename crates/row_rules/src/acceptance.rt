@@ -1,30 +1,25 @@
 //! Which written rows are accepted.
-ghost use Rattle.std.specs.Prelude.{◌≡◌, None, Some, IfOk, is_some, map, slice_index_or};
-ghost use Rattle.std.specs.List.{filter, list_any};
+ghost use Rattle.std.specs.Prelude.{◌≡◌, IfOk};
+ghost use Rattle.std.specs.List.{list_any};
 ghost use Rattle.std.specs.Map.{lookup};
 ghost use Rattle.std.specs.Option.{option_copied, option_map};
 ghost use Rattle.std.specs.Ordering.{int_eq};
-ghost use Rattle.sql_base.specs.declared.faults.RowFault.TheVariants as RowFault;
-ghost use Rattle.sql_base.specs.declared.values.Value.TheVariants.{Null};
-ghost use Rattle.sql_eval.specs.Eval.{eval};
+ghost use Rattle.constraint.specs.Valid.{row_broken};
 ghost use Rattle.sql_eval.specs.Row as row_spec;
 ghost use Rattle.row_rules.specs.Accept as spec;
 ghost use Rattle.row_rules.specs.Inner as inner;
 ghost use Rattle.row_rules.specs.Outcome.{Answers, first_some};
 ghost use Rattle.row_rules.specs.Site as sites;
 
-use crate::causes::{constraint_cause, heavy_cause, null_cause, row_cause};
+use crate::causes::{constraint_cause, heavy_cause, row_code};
 use crate::halves::{half, other};
 use crate::kinds::{Cause, Kept, Table};
-use crate::rows::with_least;
+use crate::rows::TableRows;
 use crate::sites::{BesideRef, SiteRef};
 use crate::stops::Stop;
+use constraint::{are_alike, broken_name, check_fault, not_null_name, null_at, with_least};
 use mig_lens::Side;
-use sql_base::{
-    Check, Code, Column, EvalFault, List, NoMemory, RowFault, Shape, Unique, Value, weight,
-};
-use sql_eval::eval;
-use sql_eval::operate::{alike, is_null, is_truth};
+use sql_base::{Code, List, Name, NoMemory, Unique, Value, weight};
 use std::alloc::Global;
 
 /// The heaviest half of a row.
@@ -32,56 +27,24 @@ pub const MAX_WEIGHT: u64 = 4_096;
 
 // ---- one row
 
-// The place of the first NULL in a NOT NULL column.
-fn null_at(columns: &[Column], row: &[Value]) -> Option<usize>
-    ensures { option_map RowFault.Null result ≡ row_spec.null_fault 0 columns.now row.now }
+// What a half of a row of a table doesn't meet, NULL in a NOT NULL column before the checks: the code and the
+// constraint's name.
+fn half_fault(alloc: Global, table: &Table, row: &[Value]) -> Result<Option<(Code, Name)>, NoMemory>
+    ensures { IfOk result (λ fault. fault ≡ inner.half_fault table.now row.now) }
 {
-    for (at, column) in columns.iter().enumerate() {
-        match row.get(at) {
-            Some(value) => {
-                if !column.nullable && is_null(value) {
-                    return Some(at);
-                }
+    match null_at(table.2.columns.as_slice(), row) {
+        Some(at) => {
+            let name = not_null_name(alloc, &table.0, &table.2, at)?;
+            Ok(Some((Code::C23502, name)))
+        }
+        None => match check_fault(alloc, &table.2, row)? {
+            Some(fault) => {
+                let name = broken_name(alloc, &table.0, &table.2, fault)?;
+                Ok(Some((row_code(fault), name)))
             }
-            None => return None,
-        }
+            None => Ok(None),
+        },
     }
-    None
-}
-
-// What the check at this place comes to over a row, where it isn't met.
-fn broken(
-    alloc: Global,
-    shape: &Shape,
-    row: &[Value],
-    at: usize,
-    check: &Check,
-) -> Result<Option<RowFault>, NoMemory>
-    ensures { IfOk result (λ fault. fault ≡ row_spec.broken at (eval shape.now row.now check.now.expr)) }
-{
-    match eval(alloc, &check.expr, shape, row) {
-        Ok(value) => {
-            if is_truth(false, &value) {
-                Ok(Some(RowFault::Check(at as u64)))
-            } else {
-                Ok(None)
-            }
-        }
-        Err(EvalFault::NoMemory) => Err(NoMemory),
-        Err(fault) => Ok(Some(RowFault::Eval(at as u64, fault))),
-    }
-}
-
-// The first check that isn't met by a row.
-fn check_fault(alloc: Global, shape: &Shape, row: &[Value]) -> Result<Option<RowFault>, NoMemory>
-    ensures { IfOk result (λ fault. fault ≡ row_spec.check_fault 0 (map (λ check. eval shape.now row.now check.expr) shape.now.checks)) }
-{
-    for (at, check) in shape.checks.as_slice().iter().enumerate() {
-        if let Some(fault) = broken(alloc, shape, row, at, check)? {
-            return Ok(Some(fault));
-        }
-    }
-    Ok(None)
 }
 
 /// What is wrong with a half of a row of a table.
@@ -93,12 +56,28 @@ pub fn half_cause(
 ) -> Result<Option<Cause>, NoMemory>
     ensures { IfOk result (λ cause. cause ≡ spec.half_cause table.now key row.now) }
 {
-    match null_at(table.2.columns.as_slice(), row) {
-        Some(at) => Ok(Some(null_cause(alloc, table, key, at)?)),
-        None => match check_fault(alloc, &table.2, row)? {
-            Some(fault) => Ok(Some(row_cause(alloc, table, key, fault)?)),
-            None => Ok(None),
-        },
+    match half_fault(alloc, table, row)? {
+        Some((code, name)) => Ok(Some(Cause {
+            code,
+            name: Some(name),
+            key,
+        })),
+        None => Ok(None),
+    }
+}
+
+/// The constraint of a table that a half of a row doesn't meet, with the row's key.
+pub fn half_broken(
+    alloc: Global,
+    table: &Table,
+    key: i64,
+    row: &[Value],
+) -> Result<Option<(Name, i64)>, NoMemory>
+    ensures { IfOk result (λ broken. broken ≡ row_broken (sites.name_of table.now) (sites.shape_of table.now) (key, row.now)) }
+{
+    match half_fault(alloc, table, row)? {
+        Some((_, name)) => Ok(Some((name, key))),
+        None => Ok(None),
     }
 }
 
@@ -185,31 +164,12 @@ fn half_at<'a>(side: Side, rows: &'a [Kept], key: i64) -> Option<&'a List<Value>
     None
 }
 
-// Whether two halves have the same values, none of them NULL, in these columns.
-fn are_alike(columns: &[u32], one: &[Value], two: &[Value]) -> bool
-    ensures { result ≡ row_spec.all_alike (map (λ at. slice_index_or one.now at Null) columns.now) (map (λ at. slice_index_or two.now at Null) columns.now) }
-{
-    for at in columns {
-        match (one.get(*at as usize), two.get(*at as usize)) {
-            (Some(x), Some(y)) => {
-                if !alike(x, y) {
-                    return false;
-                }
-            }
-            _ => return false,
-        }
-    }
-    true
-}
-
 // Whether a row has another key than this one, and these values in the columns of a unique constraint.
 fn other_has(unique: &Unique, side: Side, key: i64, values: &[Value], row: &Kept) -> bool
     ensures { result ≡ inner.other_has unique.now side key values.now row.now }
 {
     match half(side, &row.halves) {
-        Some(others) => {
-            row.key != key && are_alike(unique.columns.as_slice(), values, others.as_slice())
-        }
+        Some(others) => { row.key != key && are_alike(unique, values, others.as_slice()) }
         None => false,
     }
 }
@@ -222,93 +182,123 @@ fn another_has(unique: &Unique, side: Side, key: i64, values: &[Value], rows: &[
         .any(|row| other_has(unique, side, key, values, row))
 }
 
-#[tactic(auto, using(crate::proofs::Clashing::another_clashes))]
-fn clashes_at(unique: &Unique, side: Side, rows: &[Kept], key: i64) -> bool
-    ensures { result ≡ is_some (row_spec.clash unique.now (spec.present side rows.now) key) }
+// Whether the row of this key among the written ones has the values of another written one, or of an older one of none of
+// these keys.
+fn clashes_at<T: TableRows>(
+    alloc: Global,
+    unique: &Unique,
+    side: Side,
+    written: &[Kept],
+    older: &T,
+    keys: &[i64],
+    key: i64,
+) -> Result<bool, NoMemory>
+    ensures { IfOk result (λ found. found ≡ inner.clashes_beside unique.now side written.now (T.rows older.now) keys.now key) }
 {
-    match half_at(side, rows, key) {
-        Some(values) => another_has(unique, side, key, values.as_slice(), rows),
-        None => false,
+    match half_at(side, written, key) {
+        Some(values) => {
+            if another_has(unique, side, key, values.as_slice(), written) {
+                return Ok(true);
+            }
+            older.other_alike(alloc, side, unique, values.as_slice(), keys)
+        }
+        None => Ok(false),
     }
 }
 
-fn least_clash(unique: &Unique, side: Side, rows: &[Kept], keys: &[i64]) -> Option<i64>
-    ensures { result ≡ row_spec.least (filter (spec.has_clash unique.now (spec.present side rows.now)) keys.now) }
+fn least_clash<T: TableRows>(
+    alloc: Global,
+    unique: &Unique,
+    side: Side,
+    written: &[Kept],
+    older: &T,
+    keys: &[i64],
+) -> Result<Option<i64>, NoMemory>
+    ensures { IfOk result (λ key. key ≡ inner.least_beside unique.now side written.now (T.rows older.now) keys.now) }
 {
     let mut least = None;
     let mut at = keys.len();
     while at > 0 {
         at -= 1;
-        least = with_least(keys[at], clashes_at(unique, side, rows, keys[at]), least);
+        let counts = clashes_at(alloc, unique, side, written, older, keys, keys[at])?;
+        least = with_least(keys[at], counts, least);
     }
-    least
+    Ok(least)
 }
 
-fn unique_cause(
+fn unique_cause<T: TableRows>(
     alloc: Global,
     unique: &Unique,
     side: Side,
-    rows: &[Kept],
+    written: &[Kept],
+    older: &T,
     keys: &[i64],
 ) -> Result<Option<Cause>, NoMemory>
-    ensures { IfOk result (λ cause. cause ≡ spec.unique_cause (spec.present side rows.now) keys.now unique.now) }
+    ensures { IfOk result (λ cause. cause ≡ inner.unique_beside side written.now (T.rows older.now) keys.now unique.now) }
 {
-    match least_clash(unique, side, rows, keys) {
+    match least_clash(alloc, unique, side, written, older, keys)? {
         Some(key) => Ok(Some(constraint_cause(alloc, Code::C23505, unique.name.as_slice(), key)?)),
         None => Ok(None),
     }
 }
 
-fn uniques_cause(
+fn uniques_cause<T: TableRows>(
     alloc: Global,
     uniques: &[Unique],
     side: Side,
-    rows: &[Kept],
+    written: &[Kept],
+    older: &T,
     keys: &[i64],
 ) -> Result<Option<Cause>, NoMemory>
-    ensures { IfOk result (λ cause. cause ≡ first_some (spec.unique_cause (spec.present side rows.now) keys.now) uniques.now) }
+    ensures { IfOk result (λ cause. cause ≡ first_some (inner.unique_beside side written.now (T.rows older.now) keys.now) uniques.now) }
 {
     for unique in uniques {
-        if let Some(cause) = unique_cause(alloc, unique, side, rows, keys)? {
+        if let Some(cause) = unique_cause(alloc, unique, side, written, older, keys)? {
             return Ok(Some(cause));
         }
     }
     Ok(None)
 }
 
-/// Why rows of these keys aren't accepted among all rows of their table, through a side that may not have it.
-pub fn clashes_on(
+/// Why written rows of these keys aren't accepted beside each other and the older rows of other keys, through a side that
+/// may not have the table.
+pub fn clashes_on<T: TableRows>(
     alloc: Global,
     table: Option<&Table>,
     side: Side,
-    rows: &[Kept],
+    written: &[Kept],
+    older: &T,
     keys: &[i64],
 ) -> Result<Option<Cause>, NoMemory>
-    ensures { IfOk result (λ cause. cause ≡ spec.clashes_on (option_copied table.entry) side rows.now keys.now) }
+    ensures { IfOk result (λ cause. cause ≡ inner.on_beside (option_copied table.entry) side written.now (T.rows older.now) keys.now) }
 {
     match table {
-        Some(table) => uniques_cause(alloc, table.2.uniques.as_slice(), side, rows, keys),
+        Some(table) => uniques_cause(
+            alloc,
+            table.2.uniques.as_slice(),
+            side,
+            written,
+            older,
+            keys,
+        ),
         None => Ok(None),
     }
 }
 
 /// The same through both sides, the written one first.
-pub fn clashes(
+pub fn clashes<T: TableRows>(
     alloc: Global,
     site: SiteRef<'_>,
-    rows: &[Kept],
+    written: &[Kept],
+    older: &T,
     keys: &[i64],
 ) -> Result<Option<Cause>, NoMemory>
-    ensures { IfOk result (λ cause. cause ≡ spec.clashes (sites.site_of site.entry) rows.now keys.now) }
+    ensures { IfOk result (λ cause. cause ≡ inner.all_beside (sites.site_of site.entry) written.now (T.rows older.now) keys.now) }
 {
-    if let Some(cause) = clashes_on(alloc, Some(site.here), site.side, rows, keys)? {
-        return Ok(Some(cause));
+    let here = clashes_on(alloc, Some(site.here), site.side, written, older, keys)?;
+    if here.is_some() {
+        return Ok(here);
     }
-    clashes_on(
-        alloc,
-        table_beside(site.there),
-        other(site.side),
-        rows,
-        keys,
-    )
+    let there = table_beside(site.there);
+    clashes_on(alloc, there, other(site.side), written, older, keys)
 }

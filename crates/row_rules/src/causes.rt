@@ -1,11 +1,11 @@
 //! Why rows and statements aren't accepted.
 ghost use Rattle.std.specs.Prelude.{◌≡◌, IfOk, Some};
-ghost use Rattle.sql_base.specs.declared.faults.RowFault.TheVariants as RowFault;
 ghost use Rattle.sql_base.specs.declared.codes.Code.TheVariants as Code;
 ghost use Rattle.row_rules.specs.Causes as spec;
 
 use crate::kinds::{Cause, SqlError, Table};
-use sql_base::{Code, EvalFault, Name, NoMemory, RowFault, Shape, TypeFault};
+use constraint::not_null_name;
+use sql_base::{Code, EvalFault, Name, NoMemory, RowFault, TypeFault};
 use std::alloc::Global;
 
 fn fault_code(fault: EvalFault) -> Code
@@ -47,38 +47,6 @@ pub fn value_cause(alloc: Global, key: i64, fault: EvalFault) -> Result<Cause, N
     })
 }
 
-// The name of the column at this place.
-fn column_name(shape: &Shape, at: usize) -> &[u8]
-    ensures { result.now ≡ spec.column_name shape.now at }
-{
-    match shape.columns.as_slice().get(at) {
-        Some(column) => column.name.as_slice(),
-        None => b"",
-    }
-}
-
-// The name of the column's NOT NULL constraint.
-fn not_null_name(alloc: Global, table: &Table, at: usize) -> Result<Name, NoMemory>
-    ensures { IfOk result (λ name. name ≡ spec.not_null_name table.now at) }
-{
-    let mut name = Vec::from_slice(alloc, table.0.as_slice())?;
-    name.extend_from_slice(b"_")?;
-    name.extend_from_slice(column_name(&table.2, at))?;
-    name.extend_from_slice(b"_not_null")?;
-    Name::from_slice(alloc, name.as_slice())
-}
-
-/// NULL stands in the NOT NULL column at this place.
-pub fn null_cause(alloc: Global, table: &Table, key: i64, at: usize) -> Result<Cause, NoMemory>
-    ensures { IfOk result (λ cause. cause ≡ spec.row_cause table.now key (RowFault.Null at)) }
-{
-    Ok(Cause {
-        code: Code::C23502,
-        name: Some(not_null_name(alloc, table, at)?),
-        key,
-    })
-}
-
 /// A constraint or a limit isn't met by the row of this key.
 pub fn constraint_cause(alloc: Global, code: Code, name: &[u8], key: i64) -> Result<Cause, NoMemory>
     ensures { IfOk result (λ cause. cause ≡ spec.constraint_cause code name.now key) }
@@ -106,26 +74,14 @@ pub fn taken_key(alloc: Global, table: &Table, key: i64) -> Result<Cause, NoMemo
     constraint_cause(alloc, Code::C23505, constraint.as_slice(), key)
 }
 
-// The name of the check at this place.
-fn check_name(shape: &Shape, at: u64) -> &[u8]
-    ensures { result.now ≡ spec.check_name shape.now at }
-{
-    match shape.checks.as_slice().get(at as usize) {
-        Some(check) => check.name.as_slice(),
-        None => b"",
-    }
-}
-
-/// A fault of a row of this table, with the constraint's name.
-pub fn row_cause(alloc: Global, table: &Table, key: i64, fault: RowFault) -> Result<Cause, NoMemory>
-    ensures { IfOk result (λ cause. cause ≡ spec.row_cause table.now key fault) }
+/// The code of a fault of a row.
+pub fn row_code(fault: RowFault) -> Code
+    ensures { result ≡ spec.row_code fault }
 {
     match fault {
-        RowFault::Null(at) => null_cause(alloc, table, key, at as usize),
-        RowFault::Check(at) => constraint_cause(alloc, Code::C23514, check_name(&table.2, at), key),
-        RowFault::Eval(at, fault) => {
-            constraint_cause(alloc, fault_code(fault), check_name(&table.2, at), key)
-        }
+        RowFault::Null(_) => Code::C23502,
+        RowFault::Check(_) => Code::C23514,
+        RowFault::Eval(_, fault) => fault_code(fault),
     }
 }
 
@@ -206,6 +162,6 @@ pub fn heavy_statement(alloc: Global) -> Result<SqlError, NoMemory>
 pub fn null_key_error(alloc: Global, table: &Table) -> Result<SqlError, NoMemory>
     ensures { IfOk result (λ error. error ≡ spec.named_error Code.C23502 (spec.not_null_name table.now table.now.2.key)) }
 {
-    let name = not_null_name(alloc, table, table.2.key as usize)?;
+    let name = not_null_name(alloc, &table.0, &table.2, table.2.key as usize)?;
     named_error(alloc, Code::C23502, name.as_slice())
 }

@@ -29,6 +29,7 @@ mod together;
 mod writing;
 
 pub use changing::changes;
+pub use halves::half;
 pub use inserting::insert_job;
 pub use kinds::{Cause, Change, Halves, Job, Kept, SqlError, Table};
 pub use reach::key_named;
@@ -36,6 +37,6 @@ pub use rows::{TableRows, any_missing, least_missing, missing_rows};
 pub use settling::{delete_job, query_error, update_job};
 pub use showing::{MAX_REPLY, rows_shown};
 pub use sites::{BesideRef, SiteRef};
-pub use steps::{begun_row, invalid_cause, show_heavy};
+pub use steps::{begun_row, invalid, invalid_cause, show_heavy};
 pub use stops::Stop;
 pub use together::{after_changes, cause_together, refused_together};

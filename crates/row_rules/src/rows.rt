@@ -1,17 +1,37 @@
 //! Rows that can be looked at one by one, however they are kept.
-ghost use Rattle.std.specs.Prelude.{◌≡◌, ◌<◌, Some, IfOk, is_none, length, slice_get, take};
+ghost use Rattle.std.specs.Prelude.{◌≡◌, ◌<◌, true, Some, IfOk, is_none, length, slice_get, take};
 ghost use Rattle.std.specs.List.{filter, list_any};
 ghost use Rattle.std.specs.Option.{option_map};
 ghost use Rattle.std.specs.Ordering.{int_eq};
 ghost use Rattle.sql_eval.specs.Row.{least};
 ghost use Rattle.row_rules.specs.Accept as accept;
-ghost use Rattle.row_rules.specs.Inner as inner;
-ghost use Rattle.row_rules.specs.Rows.{missing_keys};
+ghost use Rattle.row_rules.specs.Rows.{Ascends, missing_keys};
 ghost use Rattle.row_rules.specs.Site.{is_missing};
 
+use crate::halves::half;
 use crate::kinds::Kept;
-use sql_base::{Copying, List, NoMemory, try_map};
+use constraint::{are_alike, with_least};
+use mig_lens::Side;
+use sql_base::{Copying, List, NoMemory, Unique, Value, try_map};
 use std::alloc::Global;
+use std::cmp::Ordering;
+
+fn is_among(key: i64, keys: &[i64]) -> bool
+    ensures { result ≡ list_any (int_eq key) keys.now }
+{
+    keys.iter().any(|other| key == *other)
+}
+
+// Whether a row has none of these keys, and in its half of this side values like these in the columns of a unique
+// constraint.
+fn other_alike(unique: &Unique, side: Side, values: &[Value], keys: &[i64], row: &Kept) -> bool
+    ensures { result ≡ accept.other_alike unique.now side values.now keys.now row.now }
+{
+    match half(side, &row.halves) {
+        Some(others) => !is_among(row.key, keys) && are_alike(unique, values, others.as_slice()),
+        None => false,
+    }
+}
 
 /// The rows of a table, place by place.
 pub trait TableRows {
@@ -43,6 +63,42 @@ pub trait TableRows {
     fn row_at(&self, alloc: Global, at: usize) -> Result<Kept, NoMemory>
         requires { at < length (rows self.now) }
         ensures { IfOk result (λ row. slice_get (rows self.now) at ≡ Some row) };
+
+    /// Whether the rows are known to ascend by key. It is false wherever they don't.
+    fn ascend(&self) -> bool
+        ensures { result ≡ true → Ascends (rows self.now) }
+    {
+        let mut at = self.count();
+        while at > 1 {
+            at -= 1;
+            match self.key_at(at - 1).cmp(&self.key_at(at)) {
+                Ordering::Less => {}
+                Ordering::Equal | Ordering::Greater => return false,
+            }
+        }
+        true
+    }
+
+    /// Whether a row that has none of these keys has, in its half of this side, values like these, none of them NULL, in
+    /// the columns of a unique constraint. An error is want of memory.
+    fn other_alike(
+        &self,
+        alloc: Global,
+        side: Side,
+        unique: &Unique,
+        values: &[Value],
+        keys: &[i64],
+    ) -> Result<bool, NoMemory>
+        ensures { IfOk result (λ found. found ≡ list_any (accept.other_alike unique.now side values.now keys.now) (rows self.now)) }
+    {
+        for at in 0..self.count() {
+            let row = self.row_at(alloc, at)?;
+            if other_alike(unique, side, values, keys, &row) {
+                return Ok(true);
+            }
+        }
+        Ok(false)
+    }
 }
 
 impl TableRows for &[Kept] {
@@ -66,6 +122,20 @@ impl TableRows for &[Kept] {
 
     fn row_at(&self, alloc: Global, at: usize) -> Result<Kept, NoMemory> {
         self[at].copy(alloc)
+    }
+
+    fn other_alike(
+        &self,
+        _alloc: Global,
+        side: Side,
+        unique: &Unique,
+        values: &[Value],
+        keys: &[i64],
+    ) -> Result<bool, NoMemory> {
+        Ok(
+            self.iter()
+                .any(|row| other_alike(unique, side, values, keys, row)),
+        )
     }
 }
 
@@ -109,6 +179,20 @@ impl TableRows for Option<Kept> {
             None => unreachable!(),
         }
     }
+
+    fn other_alike(
+        &self,
+        _alloc: Global,
+        side: Side,
+        unique: &Unique,
+        values: &[Value],
+        keys: &[i64],
+    ) -> Result<bool, NoMemory> {
+        match self {
+            Some(row) => Ok(other_alike(unique, side, values, keys, row)),
+            None => Ok(false),
+        }
+    }
 }
 
 /// Whether one of these rows is still to be filled.
@@ -121,17 +205,6 @@ pub fn any_missing<T: TableRows>(rows: &T) -> bool
         }
     }
     false
-}
-
-/// The least key, where this one counts or doesn't beside the least of others.
-pub fn with_least(key: i64, counts: bool, least: Option<i64>) -> Option<i64>
-    ensures { result ≡ inner.with_least key counts least }
-{
-    match least {
-        Some(other) if counts && key < other => Some(key),
-        None if counts => Some(key),
-        _ => least,
-    }
 }
 
 /// The least key of the rows that are still to be filled.

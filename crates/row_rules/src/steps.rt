@@ -1,16 +1,20 @@
 //! What a migration's start and its completion look at in the rows of a table, and what the start leaves.
 ghost use Rattle.std.specs.Prelude.{◌≡◌, IfOk, map};
 ghost use Rattle.std.specs.List.{list_any};
+ghost use Rattle.std.specs.Option.{option_map};
 ghost use Rattle.mig_lens.specs.Layout as layout;
+ghost use Rattle.mig_lens.specs.declared.columns.Side.TheVariants.{New};
+ghost use Rattle.row_rules.specs.Accept as accept;
 ghost use Rattle.row_rules.specs.Inner as inner;
 ghost use Rattle.row_rules.specs.Outcome.{first_some};
 ghost use Rattle.row_rules.specs.Steps as spec;
 
-use crate::acceptance::{MAX_WEIGHT, clashes_on, half_cause};
+use crate::acceptance::{MAX_WEIGHT, clashes_on, half_broken, half_cause};
 use crate::kinds::{Cause, Halves, Kept, Table};
 use crate::rows::{TableRows, all_rows, keys_of};
+use constraint::{Keyed, uniques_broken};
 use mig_lens::{Cell, Lens, Side, unfilled};
-use sql_base::{Copying, List, NoMemory, Value, weight};
+use sql_base::{Copying, List, Name, NoMemory, Value, weight};
 use std::alloc::Global;
 
 // ---- the start
@@ -126,11 +130,13 @@ fn new_clash<T: TableRows>(
     }
     let all = all_rows(alloc, rows)?;
     let keys = keys_of(alloc, all.as_slice())?;
+    let none: Option<Kept> = None;
     clashes_on(
         alloc,
         Some(table),
         Side::New,
         all.as_slice(),
+        &none,
         keys.as_slice(),
     )
 }
@@ -147,5 +153,93 @@ pub fn invalid_cause<T: TableRows>(
     match first_half_cause(alloc, table, rows)? {
         Some(cause) => Ok(Some(cause)),
         None => new_clash(alloc, table, rows),
+    }
+}
+
+fn new_half_broken(
+    alloc: Global,
+    table: &Table,
+    row: &Kept,
+) -> Result<Option<(Name, i64)>, NoMemory>
+    ensures { IfOk result (λ broken. broken ≡ inner.half_broken table.now row.now) }
+{
+    match &row.halves.new {
+        Some(values) => half_broken(alloc, table, row.key, values.as_slice()),
+        None => Ok(None),
+    }
+}
+
+// The same of the first new half that doesn't meet a constraint.
+fn first_broken<T: TableRows>(
+    alloc: Global,
+    table: &Table,
+    rows: &T,
+) -> Result<Option<(Name, i64)>, NoMemory>
+    ensures { IfOk result (λ broken. broken ≡ first_some (inner.half_broken table.now) (T.rows rows.now)) }
+{
+    for at in 0..rows.count() {
+        let row = rows.row_at(alloc, at)?;
+        let broken = new_half_broken(alloc, table, &row)?;
+        if broken.is_some() {
+            return Ok(broken);
+        }
+    }
+    Ok(None)
+}
+
+// A row's new half under its key.
+fn new_half(row: Kept) -> Option<Keyed>
+    ensures { result ≡ option_map (λ values. (row.key, values)) row.halves.new }
+{
+    let Kept { key, halves, .. } = row;
+    let Halves { new, .. } = halves;
+    match new {
+        Some(values) => Some((key, values)),
+        None => None,
+    }
+}
+
+fn new_halves<T: TableRows>(alloc: Global, rows: &T) -> Result<List<Keyed>, NoMemory>
+    ensures { IfOk result (λ halves. halves ≡ accept.present New (T.rows rows.now)) }
+{
+    let mut halves = List::new(alloc);
+    for at in 0..rows.count() {
+        let row = rows.row_at(alloc, at)?;
+        if let Some(half) = new_half(row) {
+            halves.push(half)?;
+        }
+    }
+    Ok(halves)
+}
+
+// The first unique constraint that new halves don't meet, with the least key that has an equal.
+fn first_unique_broken<T: TableRows>(
+    alloc: Global,
+    table: &Table,
+    rows: &T,
+) -> Result<Option<(Name, i64)>, NoMemory>
+    ensures { IfOk result (λ broken. broken ≡ inner.uniques_broken table.now (T.rows rows.now)) }
+{
+    if table.2.uniques.as_slice().is_empty() {
+        return Ok(None);
+    }
+    let halves = new_halves(alloc, rows)?;
+    uniques_broken(alloc, table.2.uniques.as_slice(), halves.as_slice())
+}
+
+/// The constraint that the new halves of these rows don't meet, with a key, or none: the first fault of a new half, one
+/// row looked at after another; then the unique constraints, the first with the least key that has an equal. Where there
+/// is no unique constraint no row is kept. `table` is the table of the new version. An error is want of memory.
+#[tactic(auto, using(crate::proofs::Validity::first_present))]
+pub fn invalid<T: TableRows>(
+    alloc: Global,
+    table: &Table,
+    rows: &T,
+) -> Result<Option<(Name, i64)>, NoMemory>
+    ensures { IfOk result (λ broken. broken ≡ spec.invalid table.now (T.rows rows.now)) }
+{
+    match first_broken(alloc, table, rows)? {
+        Some(broken) => Ok(Some(broken)),
+        None => first_unique_broken(alloc, table, rows),
     }
 }

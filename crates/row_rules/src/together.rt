@@ -6,13 +6,15 @@ ghost use Rattle.sql_eval.specs.Row.{least};
 ghost use Rattle.row_rules.specs.Accept as accept;
 ghost use Rattle.row_rules.specs.Changes as spec;
 ghost use Rattle.row_rules.specs.Inner as inner;
+ghost use Rattle.row_rules.specs.Rows.{Ascends};
 ghost use Rattle.row_rules.specs.Site as sites;
 
 use crate::acceptance::clashes;
 use crate::causes::{heavy_statement, row_error, taken_key};
 use crate::kinds::{Cause, Change, Job, Kept, SqlError, Table};
-use crate::rows::{TableRows, all_rows, with_least};
+use crate::rows::{TableRows, all_rows};
 use crate::sites::SiteRef;
+use constraint::with_least;
 use sql_base::{Copying, List, NoMemory, Value, try_map, weight};
 use std::alloc::Global;
 use std::cmp::Ordering;
@@ -203,6 +205,37 @@ fn keys_changed(alloc: Global, changes: &[Change]) -> Result<List<i64>, NoMemory
     try_map(alloc, changes, |change| Ok(key_changed(change)))
 }
 
+// Of older rows that ascend.
+fn clashes_beside<T: TableRows>(
+    alloc: Global,
+    site: SiteRef<'_>,
+    older: &T,
+    changes: &[Change],
+) -> Result<Option<Cause>, NoMemory>
+    requires { Ascends (T.rows older.now) }
+    ensures { IfOk result (λ cause. cause ≡ inner.clashes_after (sites.site_of site.entry) (T.rows older.now) changes.now) }
+{
+    let keys = keys_changed(alloc, changes)?;
+    let written = after_changes(alloc, changes, &[])?;
+    clashes(alloc, site, written.as_slice(), older, keys.as_slice())
+}
+
+// Of any older rows.
+fn clashes_among<T: TableRows>(
+    alloc: Global,
+    site: SiteRef<'_>,
+    older: &T,
+    changes: &[Change],
+) -> Result<Option<Cause>, NoMemory>
+    ensures { IfOk result (λ cause. cause ≡ inner.clashes_after (sites.site_of site.entry) (T.rows older.now) changes.now) }
+{
+    let rows = all_rows(alloc, older)?;
+    let rows = after_changes(alloc, changes, rows.as_slice())?;
+    let keys = keys_changed(alloc, changes)?;
+    let none: Option<Kept> = None;
+    clashes(alloc, site, rows.as_slice(), &none, keys.as_slice())
+}
+
 #[tactic(auto, using(crate::proofs::Uniques::no_clashes))]
 fn clashes_after<T: TableRows>(
     alloc: Global,
@@ -215,14 +248,15 @@ fn clashes_after<T: TableRows>(
     if !has_uniques(site) {
         return Ok(None);
     }
-    let rows = all_rows(alloc, older)?;
-    let rows = after_changes(alloc, changes, rows.as_slice())?;
-    let keys = keys_changed(alloc, changes)?;
-    clashes(alloc, site, rows.as_slice(), keys.as_slice())
+    if older.ascend() {
+        return clashes_beside(alloc, site, older, changes);
+    }
+    clashes_among(alloc, site, older, changes)
 }
 
 /// Why the rows that these changes leave aren't accepted beside each other: the least new key that another row has, then
-/// the unique constraints, the written side's first. Where neither version has a unique constraint no row is copied.
+/// the unique constraints, the written side's first. Older rows are copied only where they don't ascend by key and a
+/// version has a unique constraint.
 pub fn cause_together<T: TableRows>(
     alloc: Global,
     site: SiteRef<'_>,

@@ -12,8 +12,8 @@ use Rattle.sql_base.specs.Laws.{and_false}
 use Rattle.sql_eval.specs.Row.{all_alike, least, least_clash, values_of}
 use Rattle.sql_eval.specs.Value.{alike, is_null}
 use Rattle.row_store.specs.Laws.{RemovedIsLeftOut}
-use Rattle.uniq_index.specs.Laws.{ClashesAreThoseOfRows, NullsClashWithNone, PutIsIndexed, RemovedIsNotIndexed}
-use Rattle.uniq_index.specs.Scan.{clashes}
+use Rattle.uniq_index.specs.Indexed.{is_among}
+use Rattle.uniq_index.specs.Laws.{ClashesAreThoseOfRows, NullsClashBesideNone, NullsClashWithNone, PutIsIndexed, RemovedIsNotIndexed}
 
 pub clashes_are_those_of_rows : ClashesAreThoseOfRows
 clashes_are_those_of_rows unique rows entries key row indexed found =
@@ -75,11 +75,17 @@ nulls_unlike (x ∷ xs) (y ∷ ys) h = by_test (is_null x) refl h (nulls_unlike 
     by_test true is h later = ap (λ a. a && all_alike xs ys) (null_unlike x y is)
     by_test false is h later = ap (λ a. alike x y && a) (later h) ∙ and_false (alike x y)
 
-none_passes : (values : List Value) (key : ℤ) (entries : List (ℤ × List Value)) → list_any is_null values ≡ true → filter (clashes values key) entries ≡ []
-none_passes values key [] h = refl
-none_passes values key (entry ∷ entries) h =
-    let unlike : clashes values key entry ≡ false = ap (λ a. not (int_eq entry.0 key) && a) (nulls_unlike values entry.1 h) ∙ and_false (not (int_eq entry.0 key)) in
-    ap (λ b. cond b (entry ∷ filter (clashes values key) entries) (filter (clashes values key) entries)) unlike ∙ none_passes values key entries h
+-- whichever entries are looked at
+none_passes : (looked : ℤ × List Value → Bool) (values : List Value) (entries : List (ℤ × List Value)) → list_any is_null values ≡ true
+    → filter (λ entry. looked entry && all_alike values entry.1) entries ≡ []
+none_passes looked values [] h = refl
+none_passes looked values (entry ∷ entries) h =
+    let passes : ℤ × List Value → Bool = λ entry. looked entry && all_alike values entry.1 in
+    let unlike : passes entry ≡ false = ap (λ a. looked entry && a) (nulls_unlike values entry.1 h) ∙ and_false (looked entry) in
+    ap (λ b. cond b (entry ∷ filter passes entries) (filter passes entries)) unlike ∙ none_passes looked values entries h
 
 pub nulls_clash_with_none : NullsClashWithNone
-nulls_clash_with_none entries values key h = ap (λ found. least (keys_of found)) (none_passes values key (finite.entries entries) h)
+nulls_clash_with_none entries values key h = ap (λ found. least (keys_of found)) (none_passes (λ entry. not (int_eq entry.0 key)) values (finite.entries entries) h)
+
+pub nulls_clash_beside_none : NullsClashBesideNone
+nulls_clash_beside_none entries values keys h = ap (λ found. least (keys_of found)) (none_passes (λ entry. not (is_among entry.0 keys)) values (finite.entries entries) h)

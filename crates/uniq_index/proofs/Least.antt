@@ -14,7 +14,7 @@ use Rattle.std.proofs.lemmas.List.{drop_all}
 use Rattle.sql_base.specs.declared.values.Value.{Value}
 use Rattle.sql_base.specs.Laws.{both}
 use Rattle.sql_eval.specs.Row.{least}
-use Rattle.uniq_index.specs.Indexed.{Entries, clash_in}
+use Rattle.uniq_index.specs.Indexed.{Entries, clash_beside}
 use Rattle.uniq_index.specs.Scan.{clashes, first_clashing, key_at}
 
 -- ---- the lesser of two
@@ -35,9 +35,9 @@ min_is_first key other h =
 
 -- ---- keys that rise
 
-module _ (values : List Value) (key : ℤ) where
+module _ (values : List Value) (keys : List ℤ) where
   abbrev keys_clashing : List (ℤ × List Value) → List ℤ
-  keys_clashing entries = keys_of (filter (clashes values key) entries)
+  keys_clashing entries = keys_of (filter (clashes values keys) entries)
 
   -- the lesser of a key and the least of others, if there is one
   abbrev lesser : ℤ → Option ℤ → ℤ
@@ -48,51 +48,51 @@ module _ (values : List Value) (key : ℤ) where
   below_stays first (entry ∷ entries) below rise =
       let under = both (is_lt (int_cmp first entry.0)) (below_all int_cmp first entries) below in
       let rest = both (below_all int_cmp entry.0 entries) (is_sorted int_cmp entries) rise in
-      by_test (clashes values key entry) (below_stays first entries under.1 rest.1) (below_stays entry.0 entries rest.0 rest.1) (less (int_cmp first entry.0) under.0)
+      by_test (clashes values keys entry) (below_stays first entries under.1 rest.1) (below_stays entry.0 entries rest.0 rest.1) (less (int_cmp first entry.0) under.0)
     where
       by_test : (b : Bool) → lesser first (least (keys_clashing entries)) ≡ first → lesser entry.0 (least (keys_clashing entries)) ≡ entry.0 → int_cmp first entry.0 ≡ Less
-          → lesser first (least (keys_of (cond b (entry ∷ filter (clashes values key) entries) (filter (clashes values key) entries)))) ≡ first
+          → lesser first (least (keys_of (cond b (entry ∷ filter (clashes values keys) entries) (filter (clashes values keys) entries)))) ≡ first
       by_test true past here under = ap (int_min first) here ∙ min_is_first first entry.0 under
       by_test false past here under = past
 
-  first_is_least : (entries : List (ℤ × List Value)) → is_sorted int_cmp entries ≡ true → first_clashing values key entries ≡ least (keys_clashing entries)
+  first_is_least : (entries : List (ℤ × List Value)) → is_sorted int_cmp entries ≡ true → first_clashing values keys entries ≡ least (keys_clashing entries)
   first_is_least [] rise = refl
   first_is_least (entry ∷ entries) rise =
       let rest = both (below_all int_cmp entry.0 entries) (is_sorted int_cmp entries) rise in
-      by_test (clashes values key entry) (first_is_least entries rest.1) (below_stays entry.0 entries rest.0 rest.1)
+      by_test (clashes values keys entry) (first_is_least entries rest.1) (below_stays entry.0 entries rest.0 rest.1)
     where
-      by_test : (b : Bool) → first_clashing values key entries ≡ least (keys_clashing entries) → lesser entry.0 (least (keys_clashing entries)) ≡ entry.0
-          → option_or (cond b (Some entry.0) None) (first_clashing values key entries) ≡ least (keys_of (cond b (entry ∷ filter (clashes values key) entries) (filter (clashes values key) entries)))
+      by_test : (b : Bool) → first_clashing values keys entries ≡ least (keys_clashing entries) → lesser entry.0 (least (keys_clashing entries)) ≡ entry.0
+          → option_or (cond b (Some entry.0) None) (first_clashing values keys entries) ≡ least (keys_of (cond b (entry ∷ filter (clashes values keys) entries) (filter (clashes values keys) entries)))
       by_test true later here = ap Some (sym here)
       by_test false later here = later
 
   -- ---- from a place on
 
   at_place : (at : ℕ) (entries : List (ℤ × List Value)) → at < length entries
-      → first_clashing values key (drop at entries) ≡ option_or (key_at values key (slice_get entries at)) (first_clashing values key (drop (suc at) entries))
+      → first_clashing values keys (drop at entries) ≡ option_or (key_at values keys (slice_get entries at)) (first_clashing values keys (drop (suc at) entries))
   at_place at [] within = absurd (omega arith)
   at_place zero (entry ∷ entries) within = refl
   at_place (suc at) (entry ∷ entries) within = at_place at entries (omega arith)
 
   -- where the entry there clashes
-  pub found_there : (at : ℕ) (entries : List (ℤ × List Value)) (found : Option ℤ) → at < length entries → found ≡ key_at values key (slice_get entries at) → is_some found ≡ true
-      → first_clashing values key (drop at entries) ≡ found
+  pub found_there : (at : ℕ) (entries : List (ℤ × List Value)) (found : Option ℤ) → at < length entries → found ≡ key_at values keys (slice_get entries at) → is_some found ≡ true
+      → first_clashing values keys (drop at entries) ≡ found
   found_there at entries None within is some = absurd (cc)
   found_there at entries (Some other) within is some =
-      at_place at entries within ∙ ap (λ o. option_or o (first_clashing values key (drop (suc at) entries))) (sym is)
+      at_place at entries within ∙ ap (λ o. option_or o (first_clashing values keys (drop (suc at) entries))) (sym is)
 
   -- where it doesn't
-  pub passed : (at : ℕ) (entries : List (ℤ × List Value)) (found : Option ℤ) → at < length entries → found ≡ key_at values key (slice_get entries at) → is_some found ≡ false
-      → first_clashing values key (drop at entries) ≡ first_clashing values key (drop (at + 1) entries)
+  pub passed : (at : ℕ) (entries : List (ℤ × List Value)) (found : Option ℤ) → at < length entries → found ≡ key_at values keys (slice_get entries at) → is_some found ≡ false
+      → first_clashing values keys (drop at entries) ≡ first_clashing values keys (drop (at + 1) entries)
   passed at entries (Some other) within is none = absurd (cc)
   passed at entries None within is none =
-      at_place at entries within ∙ ap (λ o. option_or o (first_clashing values key (drop (suc at) entries))) (sym is)
-      ∙ ap (λ n. first_clashing values key (drop n entries)) (sym (add-one at))
+      at_place at entries within ∙ ap (λ o. option_or o (first_clashing values keys (drop (suc at) entries))) (sym is)
+      ∙ ap (λ n. first_clashing values keys (drop n entries)) (sym (add-one at))
 
-  pub none_past : (at : ℕ) (entries : List (ℤ × List Value)) → length entries ≤ at → first_clashing values key (drop at entries) ≡ None
-  none_past at entries past = ap (first_clashing values key) (drop_all at entries past)
+  pub none_past : (at : ℕ) (entries : List (ℤ × List Value)) → length entries ≤ at → first_clashing values keys (drop at entries) ≡ None
+  none_past at entries past = ap (first_clashing values keys) (drop_all at entries past)
 
-  pub first_of_all : (entries : Entries) → first_clashing values key (map.entries entries) ≡ clash_in entries values key
+  pub first_of_all : (entries : Entries) → first_clashing values keys (map.entries entries) ≡ clash_beside entries values keys
   first_of_all entries = first_is_least (map.entries entries) (holds (is_sorted int_cmp (map.entries entries)) (map.entries_sorted entries))
     where
       holds : (b : Bool) → T b → b ≡ true

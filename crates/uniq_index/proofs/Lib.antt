@@ -1,3 +1,4 @@
 pub mod Least
 pub mod Unlike
+pub mod Beside
 pub mod Lawful

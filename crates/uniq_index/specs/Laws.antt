@@ -1,5 +1,5 @@
 -- An index of the values that rows have in the columns of a unique constraint.
-use Rattle.std.specs.Prelude.{◌≡◌, ℤ, true, not, List, Some, None, map}
+use Rattle.std.specs.Prelude.{◌≡◌, ℤ, true, not, List, [], ◌∷◌, Some, None, map}
 use Rattle.std.specs.FinMap as finite
 use Rattle.std.specs.List.{filter, list_any}
 use Rattle.std.specs.Map.{lookup}
@@ -8,7 +8,7 @@ use Rattle.sql_base.specs.declared.shapes.Unique.{Unique}
 use Rattle.sql_base.specs.declared.values.Value.{Value}
 use Rattle.sql_eval.specs.Row.{clash, values_of}
 use Rattle.sql_eval.specs.Value.{is_null}
-use Rattle.uniq_index.specs.Indexed.{Entries, clash_in}
+use Rattle.uniq_index.specs.Indexed.{Entries, clash_beside, clash_in}
 
 -- The entries are what rows, by ascending key, have in the columns.
 abbrev pub Indexes : Unique → List (ℤ × List Value) → Entries → Type 0
@@ -32,3 +32,10 @@ RemovedIsNotIndexed = (unique : Unique) (rows : List (ℤ × List Value)) (entri
 -- Values of which one is NULL clash with none.
 abbrev pub NullsClashWithNone : Type 0
 NullsClashWithNone = (entries : Entries) (values : List Value) (key : ℤ) → list_any is_null values ≡ true → clash_in entries values key ≡ None
+
+-- Beside one key it is the clash of that key.
+abbrev pub BesideOneKey : Type 0
+BesideOneKey = (entries : Entries) (values : List Value) (key : ℤ) → clash_beside entries values (key ∷ []) ≡ clash_in entries values key
+
+abbrev pub NullsClashBesideNone : Type 0
+NullsClashBesideNone = (entries : Entries) (values : List Value) (keys : List ℤ) → list_any is_null values ≡ true → clash_beside entries values keys ≡ None

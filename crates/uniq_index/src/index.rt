@@ -1,11 +1,12 @@
 //! Values by key.
 ghost use Rattle.std.specs.Prelude.{◌≡◌, ◌+◌, ◌≤◌, IsNone, IsSome, OnOk};
 ghost use Rattle.std.specs.FinMap as map;
-ghost use Rattle.uniq_index.specs.Indexed.{clash_in};
+ghost use Rattle.sql_eval.specs.Row.{values_of};
+ghost use Rattle.uniq_index.specs.Indexed.{clash_beside, clash_in};
 
-use crate::scanning::least_clash;
+use crate::scanning::{Sought, least_beside};
 use row_store::RowStore;
-use sql_base::{List, NoMemory, Value};
+use sql_base::{List, NoMemory, Unique, Value};
 use std::alloc::Global;
 use std::marker::Model;
 
@@ -41,10 +42,29 @@ impl UniqIndex {
     }
 
     /// The least other key with these values, or none, also where one of them is NULL.
+    #[tactic(auto, using(crate::proofs::Beside::beside_one_key))]
     pub fn clash(&self, values: &[Value], key: i64) -> Option<i64>
         ensures { result ≡ clash_in self.now.entries values.now key }
     {
-        least_clash(&self.entries, values, key)
+        self.clash_beside(values, &[key])
+    }
+
+    /// The least key, none of these, with these values, or none, also where one of them is NULL.
+    pub fn clash_beside(&self, values: &[Value], keys: &[i64]) -> Option<i64>
+        ensures { result ≡ clash_beside self.now.entries values.now keys.now }
+    {
+        least_beside(&self.entries, Sought::Listed(values), keys)
+    }
+
+    /// The same with the values that a row has in the columns of a unique constraint. It takes no memory.
+    pub fn row_clash(&self, unique: &Unique, row: &[Value], keys: &[i64]) -> Option<i64>
+        ensures { result ≡ clash_beside self.now.entries (values_of unique.now row.now) keys.now }
+    {
+        least_beside(
+            &self.entries,
+            Sought::Row(unique.columns.as_slice(), row),
+            keys,
+        )
     }
 
     /// Makes room for as many new keys. An error is want of memory. The values stay as they are.

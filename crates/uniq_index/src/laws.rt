@@ -9,6 +9,12 @@ use row_store::laws::changes_keep_order;
 pub fn clashes_are_those_of_rows()
     ensures rows { laws.ClashesAreThoseOfRows }
     ensures nulls { laws.NullsClashWithNone }
+    ensures beside { laws.NullsClashBesideNone }
+{}
+
+/// Beside one key alone it is the clash of that key.
+pub fn beside_one_key_it_is_its_clash()
+    ensures { laws.BesideOneKey }
 {}
 
 /// Such an index stays one where a row's values are put as the row is, and where the row's key is
