@@ -1,7 +1,7 @@
 -- The plain step is one of the machine's steps: the least missing keys are a choice of missing keys.
 use Rattle.std.proofs.Common.{◌≡◌, inl, ℕ, zero, suc, ◌≤◌, ℤ, List, [], ◌∷◌, Bool, true, false, ◌||◌, Option, Some, None, refl, ◌∙◌, sym, ap, subst, if◌then◌else◌, length, map, take, filter, nat_lt, arith, int_cmp, int_eq, Ordering, Less, Equal, Greater}
 use Rattle.std.specs.List.{list_any}
-use Rattle.std.specs.Option.{option_map_or, option_or}
+use Rattle.std.specs.Option.{option_map_or}
 use Rattle.std.specs.Ordering.{is_eq, ordering_reverse}
 use Rattle.std.proofs.lemmas.Cmp.{int_cmp_total, tied_itself}
 use Rattle.mig_lens.specs.declared.faults.Refusal.{Refusal}
@@ -10,14 +10,15 @@ use Rattle.machine.proofs.Placing.{Above, above_less, ascends_above, ascends_res
 use Rattle.machine.proofs.Replacing.{rows_stand}
 use Rattle.row_rules.specs.Site.{is_missing}
 use Rattle.machine.specs.declared.events.Event.{Event}
-use Rattle.machine.specs.declared.events.Event.TheVariants.{Said, Start, Fill, Complete}
+use Rattle.machine.specs.declared.events.Event.TheVariants.{Said, Start, Fill, Complete, Rollback}
 use Rattle.machine.specs.declared.events.Reply.{Reply}
 use Rattle.row_rules.specs.declared.kinds.Kept.{Kept}
 use Rattle.machine.specs.declared.states.State.{State}
 use Rattle.machine.specs.State.{Shared, missing_keys, rows_of, shared}
 use Rattle.row_rules.specs.Outcome.{guarded}
 use Rattle.machine.specs.Laws.{PlainStepsAreSteps}
-use Rattle.machine.specs.Migrate.{bad_batch, fill_keys, first_of, has_missing, inactive, least_batch, may_not_fill, steps_left, unfilled_tables}
+use Rattle.machine.specs.Migrate.{bad_batch, fill_keys, first_of, has_missing, least_batch, may_not_fill, phase_of, unfilled_tables}
+use Rattle.phase_steps.specs.Phases.{may_fill}
 use Rattle.machine.specs.Standing.{Ascends, IsState}
 use Rattle.machine.specs.Step.{Comes, ComesTo, FillStep, FillsSome, outcome_of}
 use Rattle.machine.specs.Done.{Wrote, as_outcome, wrote_by}
@@ -133,7 +134,7 @@ fills s n (number ∷ numbers) reply wrote t stands least e h =
     )
 
 fill_step : (s : State) (n : ℕ) (refusal : Option Refusal) (reply : Reply) (wrote : Wrote) (t : State) → IsState s → may_not_fill s n ≡ refusal → ComesTo s (as_outcome (guarded refusal (least_batch s n (first_of (unfilled_tables s))))) reply wrote t → FillStep refusal s n reply wrote t
-fill_step s n None reply wrote t stands e h = fills s n (unfilled_tables s) reply wrote t stands (at_least n (either_none (bad_batch n) (option_or (steps_left s) (inactive s.mode)) e).0) refl h
+fill_step s n None reply wrote t stands e h = fills s n (unfilled_tables s) reply wrote t stands (at_least n (either_none (bad_batch n) (may_fill (phase_of s)) e).0) refl h
 fill_step s n (Some refusal) reply wrote t stands e h = h
 
 -- What an event comes to where a batch takes the least missing keys is what it may come to.
@@ -142,6 +143,7 @@ lane_comes s (Said path reading) reply wrote t stands c = c
 lane_comes s (Start asked) reply wrote t stands c = c
 lane_comes s (Fill n) reply wrote t stands c = fill_step s n (may_not_fill s n) reply wrote t stands refl c
 lane_comes s Complete reply wrote t stands c = c
+lane_comes s Rollback reply wrote t stands c = c
 
 pub plain_steps_are_steps : PlainStepsAreSteps
 plain_steps_are_steps s what r stands h = (wrote_by (outcome_of s what), inl (lane_comes s what r.1 (wrote_by (outcome_of s what)) r.0 stands (h.0, refl, h.1)))

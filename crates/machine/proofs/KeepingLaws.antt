@@ -19,18 +19,19 @@ use Rattle.machine.specs.Below.{Below}
 use Rattle.machine.specs.Done.{CommandOutcome, Started, answered}
 use Rattle.machine.specs.Lawful.{HasLawfulRows, HasNoClash, IsLawful, IsLawfulRow}
 use Rattle.machine.specs.Laws.{RunsReachLawful, StepsKeepLaws}
-use Rattle.machine.specs.Migrate.{batch, batch_settled, complete, completed, fill_keys, finish, has_heavy, invalid, may_not_complete, may_not_start, not_filled, not_valid, numbers_of, planned, refused_batch, start, start_planned, started, stepped, too_heavy}
+use Rattle.machine.specs.Migrate.{batch, batch_settled, by_completing, complete, fill_keys, finish, has_heavy, invalid, may_not_complete, may_not_start, not_filled, not_valid, numbers_of, planned, refused_batch, roll_back, rollback, standing_alone, start, start_planned, started, stepped, too_heavy}
 use Rattle.machine.specs.Sites.{OfPut, TableStands, new_table_by, table_by}
 use Rattle.machine.specs.Standing.{IsState}
 use Rattle.machine.specs.State.{Found, Shared, beginning, filling_site, missing_keys, rows_of, shared, site_of, with_rows}
 use Rattle.machine.specs.Statement.{Begun, Writes, Shows, Sets, begun, changed, error_reply, finished, refused_all, settled, too_many, written}
 use Rattle.machine.specs.Step.{Run, line_outcome}
-use Rattle.machine.specs.Words.{Both, Calm, Cause, Change, Deep, Filled, Job, Kept, Migrates, Mode, New, NotRead, Old, Read, Reply, Select, Side, Start, State, Syntax, Table, TooLong, Wide, map_fault}
+use Rattle.machine.specs.Words.{Both, Calm, Cause, Change, Deep, Filled, Job, Kept, Kind, Migrates, Mode, New, NotRead, Old, Read, Reply, Select, Side, Start, State, Syntax, Table, TooLong, Wide, map_fault}
 use Rattle.machine.specs.Words.job
+use Rattle.machine.specs.Words.kind
 use Rattle.machine.proofs.Accepting.{if_none, map_fault_ok, map_none}
 use Rattle.machine.proofs.FoundSites.{sides}
-use Rattle.machine.proofs.LawfulRows.{completed_lawful, emptied_lawful, rows_lawful, started_lawful, with_rows_lawful}
-use Rattle.machine.proofs.LawfulTables.{changed_unique, completed_unique, emptied_unique, started_unique}
+use Rattle.machine.proofs.LawfulRows.{completed_lawful, emptied_lawful, rolled_lawful, rows_lawful, started_lawful, with_rows_lawful}
+use Rattle.machine.proofs.LawfulTables.{changed_unique, completed_unique, emptied_unique, rolled_unique, started_unique}
 use Rattle.machine.proofs.Lines.{BegunStands, begun_stands}
 use Rattle.machine.proofs.Moving.{each_so}
 use Rattle.machine.proofs.Outcomes.{Holds, holds_guarded, holds_then, holds_without, step_so}
@@ -39,7 +40,7 @@ use Rattle.machine.proofs.Placing.{changed_each}
 use Rattle.machine.proofs.Replacing.{rows_stand}
 use Rattle.machine.proofs.Running.{beginning_stands, steps_keep_states}
 use Rattle.machine.proofs.SoundChanges.{IsSound, changes_sound}
-use Rattle.machine.proofs.Tidying.{completing_so, ended, tidied_so}
+use Rattle.machine.proofs.Tidying.{completing_so, emptied, ended, rolling_back_so, tidied_so}
 
 -- ---- changes
 
@@ -179,10 +180,13 @@ ended_lawful s lawful =
       unique = each_so (HasNoClash s) (HasNoClash (ended s)) (λ u h. record { old = h.old; new = h.new }) s.tables lawful.unique;
     }
 
+emptied_stays : (s : State) (left : ℕ) (k : Kind) → IsLawful s → IsLawful (emptied left k s)
+emptied_stays s left k lawful = record { rows = emptied_lawful s left k lawful.rows; unique = emptied_unique s left k lawful.unique }
+
 finish_lawful : (s : State) (m : Mode) → s.mode ≡ m → IsState s → IsLawful s → Holds Lawful (finish s m)
 finish_lawful s Calm is stands lawful = tt
 finish_lawful s (Both name schema fates) is stands lawful =
-    holds_without Lawful (may_not_complete s) (stepped 1 (completed s name schema fates))
+    holds_without Lawful (may_not_complete s) (stepped 1 (standing_alone by_completing name schema fates s))
     (λ allowed.
     let valid = map_none not_valid (invalid s (numbers_of s)) (either_none (not_filled s (numbers_of s)) (option_map not_valid (invalid s (numbers_of s))) allowed).1 in
     record { rows = completed_lawful s name schema fates is stands.numbers lawful.rows valid; unique = completed_unique s name schema fates is stands.numbers valid })
@@ -190,7 +194,16 @@ finish_lawful s (Both name schema fates) is stands lawful =
 complete_lawful : (s : State) → IsState s → IsLawful s → Holds Lawful (complete s)
 complete_lawful s stands lawful =
     completing_so s Lawful (λ is. finish_lawful s s.mode refl stands lawful)
-    (λ is. tidied_so s Lawful (s.left == 2) (λ two. record { rows = emptied_lawful s lawful.rows; unique = emptied_unique s lawful.unique }) (λ last. ended_lawful s lawful))
+    (λ is. tidied_so s Lawful (s.left == 2) (λ two. emptied_stays s 1 s.kind lawful) (λ last. ended_lawful s lawful))
+
+-- ---- ROLLBACK
+
+rollback_lawful : (s : State) → IsLawful s → Holds Lawful (rollback s)
+rollback_lawful s lawful = rolling_back_so s Lawful (λ is. by_mode s.mode) (λ is. emptied_stays s 0 kind.Nothing lawful)
+  where
+    by_mode : (mode : Mode) → Holds Lawful (roll_back s mode)
+    by_mode Calm = tt
+    by_mode (Both name schema fates) = record { rows = rolled_lawful s fates lawful.rows; unique = rolled_unique s fates lawful.unique }
 
 -- ---- steps and runs
 
@@ -202,6 +215,7 @@ steps_keep_laws below s what reply t step stands lawful =
       start = λ asked. begun_lawful s asked lawful;
       some = λ number chosen _. filled_lawful below s number (filter chosen (missing_keys s number)) stands lawful;
       complete = complete_lawful s stands lawful;
+      rollback = rollback_lawful s lawful;
     }) what reply t step
 
 beginning_lawful : IsLawful beginning

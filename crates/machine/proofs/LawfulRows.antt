@@ -9,7 +9,9 @@ use Rattle.sql_base.specs.declared.shapes.Schema.{Schema}
 use Rattle.sql_base.specs.declared.values.Value.{Value}
 use Rattle.mig_lens.specs.Lens.{unfilled}
 use Rattle.mig_lens.specs.declared.columns.Lens.{Lens}
+use Rattle.mig_lens.specs.declared.columns.Side.{Side}
 use Rattle.mig_lens.specs.declared.columns.Side.TheVariants.{Old, New}
+use Rattle.mig_lens.specs.declared.faults.Kind.{Kind}
 use Rattle.mig_lens.specs.declared.plans.Fate.{Fate}
 use Rattle.mig_lens.specs.declared.plans.Plan.{Plan}
 use Rattle.mig_lens.specs.Layout.{has_mark}
@@ -17,14 +19,15 @@ use Rattle.mig_lens.specs.Plan.{Table, created_in, table_numbered}
 use Rattle.row_rules.specs.Accept.{clashes_on, is_heavy, keys_of, side_cause, weight_cause}
 use Rattle.row_rules.specs.Causes.{max_weight}
 use Rattle.row_rules.specs.Outcome.{first_some}
+use Rattle.row_rules.specs.Site.{half, other}
 use Rattle.row_rules.specs.Steps.{begun_half, begun_row, new_half_cause, shows_heavy}
 use Rattle.machine.specs.Lawful.{HasLawfulRows, IsLawfulRow, RowsLawful}
-use Rattle.machine.specs.Migrate.{begun_table, completed, created_tables, completed_row, has_heavy, invalid, invalid_in, numbers_of, started, table_without_loss, without_loss}
+use Rattle.machine.specs.Migrate.{Ending, begun_table, by_completing, by_rolling_back, created_tables, has_heavy, invalid, invalid_in, numbers_of, staying_row, staying_table, standing_alone, started, table_without_loss, without_loss}
 use Rattle.machine.specs.Standing.{NumbersAscend, may_miss}
 use Rattle.machine.specs.State.{lens_among, rows_of, shared, table_on, with_rows}
 use Rattle.machine.specs.Words.{Both, Cause, Kept, State}
 use Rattle.machine.proofs.Clashes.{none_each}
-use Rattle.machine.proofs.Completing.{completed_table}
+use Rattle.machine.proofs.Alone.{stays}
 use Rattle.machine.proofs.Joining.{on_new, pair_of}
 use Rattle.machine.proofs.Moving.{IsFound, Rows, each, each_append, each_both, each_found, each_so, filter_each, map_each}
 use Rattle.machine.proofs.Replacing.{replaced_so, rows_so}
@@ -118,6 +121,44 @@ started_lawful s name plan h light =
     (each_both (HasLawfulRows s) (λ u. has_heavy plan.fates u ≡ false) (λ u. HasLawfulRows (started s name plan) (begun_table plan.fates u)) (begun_table_lawful s name plan) s.tables h (none_each (has_heavy plan.fates) s.tables light)))
     (map_each {Y = Rows} (λ number. (number, [])) (HasLawfulRows t) (created_in plan.fates) (each (λ number. Unit {0}) (λ number. tt) (created_in plan.fates)))
 
+-- ---- a version that is left alone
+
+pub alone_never_misses : (found : Option Table) → may_miss (option_and_then (λ (old : Table). None) found) ≡ false
+alone_never_misses None = refl
+alone_never_misses (Some table) = refl
+
+light_on : (side : Side) (row : Kept) → weight_cause row ≡ None → is_heavy (half side row.halves) ≡ false
+light_on Old row h = (light_parts row h).0
+light_on New row h = (light_parts row h).1
+
+module _ (ending : Ending) (name : List ℕ) (schema : Schema) (fates : List (ℕ × Fate)) (s : State) where
+  -- Nothing is wrong with the half that stays.
+  abbrev pub IsSoundHalf : ℕ → Kept → Type 0
+  IsSoundHalf number row = side_cause (table_numbered schema number) row.key (half (other ending.gone) row.halves) ≡ None
+
+  staying_row_lawful : (number : ℕ) (row : Kept) → IsLawfulRow s number row → IsSoundHalf number row →
+      IsLawfulRow (standing_alone ending name schema fates s) number (staying_row ending.gone (lens_among fates number) row)
+  staying_row_lawful number row h sound =
+      record {
+        old = sound;
+        new = λ k. absurd (true≢false (sym k ∙ alone_never_misses (table_numbered schema number)));
+        light = light_from (staying_row ending.gone (lens_among fates number) row) (light_on (other ending.gone) row h.light) refl;
+      }
+
+  staying_table_lawful : (u : Rows) → HasLawfulRows s u → Each (IsSoundHalf u.0) u.1 → HasLawfulRows (standing_alone ending name schema fates s) (staying_table ending.gone fates u)
+  staying_table_lawful u h sound =
+      let t = standing_alone ending name schema fates s in
+      let f = staying_row ending.gone (lens_among fates u.0) in
+      map_each f (IsLawfulRow t u.0) u.1 (each_both (IsLawfulRow s u.0) (IsSoundHalf u.0) (λ row. IsLawfulRow t u.0 (f row)) (staying_row_lawful u.0) u.1 h sound)
+
+  pub alone_lawful : RowsLawful s → Each (λ u. Each (IsSoundHalf u.0) u.1) s.tables → RowsLawful (standing_alone ending name schema fates s)
+  alone_lawful h sound =
+      let t = standing_alone ending name schema fates s in
+      let g = staying_table ending.gone fates in
+      map_each g (HasLawfulRows t) (filter (stays schema) s.tables)
+      (filter_each (stays schema) (λ u. HasLawfulRows t (g u)) s.tables
+      (each_both (HasLawfulRows s) (λ u. Each (IsSoundHalf u.0) u.1) (λ u. HasLawfulRows t (g u)) staying_table_lawful s.tables h sound))
+
 -- ---- COMPLETE
 
 pub all_valid : (s : State) (tables : List Rows) → invalid s (map (λ table. table.0) tables) ≡ None → Each (λ u. invalid_in s u.0 ≡ None) tables
@@ -134,39 +175,36 @@ valid_rows None rows more h = every_row rows
     every_row (row ∷ rows) = (refl, every_row rows)
 valid_rows (Some table) rows more h = none_first (new_half_cause table) rows (either_none (first_some (new_half_cause table) rows) (more table) h).0
 
-pub alone_never_misses : (found : Option Table) → may_miss (option_and_then (λ (old : Table). None) found) ≡ false
-alone_never_misses None = refl
-alone_never_misses (Some table) = refl
-
-completed_row_lawful : (s : State) (name : List ℕ) (schema : Schema) (fates : List (ℕ × Fate)) (number : ℕ) (row : Kept) → IsLawfulRow s number row → side_cause (table_numbered schema number) row.key row.halves.new ≡ None → IsLawfulRow (completed s name schema fates) number (completed_row (lens_among fates number) row)
-completed_row_lawful s name schema fates number row h valid =
-    record {
-      old = valid;
-      new = λ k. absurd (true≢false (sym k ∙ alone_never_misses (table_numbered schema number)));
-      light = light_from (completed_row (lens_among fates number) row) (light_parts row h.light).1 refl;
-    }
-
-completed_table_lawful : (s : State) (name : List ℕ) (schema : Schema) (fates : List (ℕ × Fate)) → s.mode ≡ Both name schema fates → (u : Rows) → HasLawfulRows s u → IsFound s.tables u × (invalid_in s u.0 ≡ None) → HasLawfulRows (completed s name schema fates) (completed_table fates u)
-completed_table_lawful s name schema fates is u h (found, valid) =
+completed_sound : (s : State) (name : List ℕ) (schema : Schema) (fates : List (ℕ × Fate)) → s.mode ≡ Both name schema fates →
+    (u : Rows) → IsFound s.tables u → invalid_in s u.0 ≡ None → Each (IsSoundHalf by_completing name schema fates s u.0) u.1
+completed_sound s name schema fates is u found valid =
     let rows : rows_of s u.0 ≡ u.1 = ap (λ f. option_map_or (λ (table : Rows). table.1) f []) found in
     let more : Table → Option Cause = λ table. clashes_on (Some table) New (rows_of s u.0) (keys_of (rows_of s u.0)) in
     let each_valid = valid_rows (table_on s New u.0) (rows_of s u.0) more valid in
     let at_rows = subst (λ rows. Each (λ (row : Kept). side_cause (table_on s New u.0) row.key row.halves.new ≡ None) rows) rows each_valid in
-    let at_table = subst (λ table. Each (λ (row : Kept). side_cause table row.key row.halves.new ≡ None) u.1) (on_new s name schema fates is u.0) at_rows in
-    map_each (completed_row (lens_among fates u.0)) (IsLawfulRow (completed s name schema fates) u.0) u.1
-    (each_both (IsLawfulRow s u.0) (λ row. side_cause (table_numbered schema u.0) row.key row.halves.new ≡ None) (λ row. IsLawfulRow (completed s name schema fates) u.0 (completed_row (lens_among fates u.0) row)) (completed_row_lawful s name schema fates u.0) u.1 h at_table)
+    subst (λ table. Each (λ (row : Kept). side_cause table row.key row.halves.new ≡ None) u.1) (on_new s name schema fates is u.0) at_rows
 
-pub completed_lawful : (s : State) (name : List ℕ) (schema : Schema) (fates : List (ℕ × Fate)) → s.mode ≡ Both name schema fates → NumbersAscend (numbers_of s) → RowsLawful s → invalid s (numbers_of s) ≡ None → RowsLawful (completed s name schema fates)
+pub completed_lawful : (s : State) (name : List ℕ) (schema : Schema) (fates : List (ℕ × Fate)) → s.mode ≡ Both name schema fates → NumbersAscend (numbers_of s) → RowsLawful s → invalid s (numbers_of s) ≡ None → RowsLawful (standing_alone by_completing name schema fates s)
 completed_lawful s name schema fates is ascend h valid =
-    map_each (completed_table fates) (HasLawfulRows (completed s name schema fates)) (filter (λ (u : Rows). is_some (table_numbered schema u.0)) s.tables)
-    (filter_each (λ (u : Rows). is_some (table_numbered schema u.0)) (λ u. HasLawfulRows (completed s name schema fates) (completed_table fates u)) s.tables
-    (each_both (HasLawfulRows s) (λ u. IsFound s.tables u × (invalid_in s u.0 ≡ None)) (λ u. HasLawfulRows (completed s name schema fates) (completed_table fates u)) (completed_table_lawful s name schema fates is) s.tables h
-    (each_both (IsFound s.tables) (λ u. invalid_in s u.0 ≡ None) (λ u. IsFound s.tables u × (invalid_in s u.0 ≡ None)) (λ u p q. (p, q)) s.tables (each_found s.tables ascend) (all_valid s s.tables valid))))
+    alone_lawful by_completing name schema fates s h
+    (each_both (IsFound s.tables) (λ u. invalid_in s u.0 ≡ None) (λ u. Each (IsSoundHalf by_completing name schema fates s u.0) u.1) (completed_sound s name schema fates is) s.tables (each_found s.tables ascend) (all_valid s s.tables valid))
+
+-- ---- ROLLBACK
+
+pub rolled_lawful : (s : State) (fates : List (ℕ × Fate)) → RowsLawful s → RowsLawful (standing_alone by_rolling_back s.version s.schema fates s)
+rolled_lawful s fates h =
+    let IsSound : Rows → Type 0 = λ u. Each (IsSoundHalf by_rolling_back s.version s.schema fates s u.0) u.1 in
+    alone_lawful by_rolling_back s.version s.schema fates s h
+    (each_so (HasLawfulRows s) IsSound (λ u. each_so (IsLawfulRow s u.0) (IsSoundHalf by_rolling_back s.version s.schema fates s u.0) (λ row r. r.old) u.1) s.tables h)
 
 -- ---- tidying
 
-kept_lawful : (s : State) (u : Rows) → HasLawfulRows s u → HasLawfulRows (emptied s) (table_without_loss u)
-kept_lawful s u h = map_each without_loss (IsLawfulRow (emptied s) u.0) u.1 (each_so (IsLawfulRow s u.0) (λ row. IsLawfulRow (emptied s) u.0 (without_loss row)) (λ row r. record { old = r.old; new = r.new; light = r.light }) u.1 h)
+kept_lawful : (s : State) (left : ℕ) (k : Kind) (u : Rows) → HasLawfulRows s u → HasLawfulRows (emptied left k s) (table_without_loss u)
+kept_lawful s left k u h =
+    let t = emptied left k s in
+    map_each without_loss (IsLawfulRow t u.0) u.1 (each_so (IsLawfulRow s u.0) (λ row. IsLawfulRow t u.0 (without_loss row)) (λ row r. record { old = r.old; new = r.new; light = r.light }) u.1 h)
 
-pub emptied_lawful : (s : State) → RowsLawful s → RowsLawful (emptied s)
-emptied_lawful s h = map_each table_without_loss (HasLawfulRows (emptied s)) s.tables (each_so (HasLawfulRows s) (λ u. HasLawfulRows (emptied s) (table_without_loss u)) (kept_lawful s) s.tables h)
+pub emptied_lawful : (s : State) (left : ℕ) (k : Kind) → RowsLawful s → RowsLawful (emptied left k s)
+emptied_lawful s left k h =
+    let t = emptied left k s in
+    map_each table_without_loss (HasLawfulRows t) s.tables (each_so (HasLawfulRows s) (λ u. HasLawfulRows t (table_without_loss u)) (kept_lawful s left k) s.tables h)

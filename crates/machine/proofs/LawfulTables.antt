@@ -1,5 +1,5 @@
 -- Tables keep their unique constraints through every step.
-use Rattle.std.proofs.Common.{◌≡◌, ◌∙◌, ℕ, ℤ, List, [], ◌∷◌, true, false, Option, Some, None, map, filter, is_some, ap, refl, sym, subst, true≢false, option_map, option_and_then, if◌then◌else◌}
+use Rattle.std.proofs.Common.{◌≡◌, ◌∙◌, ℕ, ℤ, List, [], ◌∷◌, true, false, Option, Some, None, map, filter, ap, refl, sym, subst, true≢false, option_map, option_and_then, if◌then◌else◌}
 use Rattle.std.specs.List.{AllByRecursion as Each, cons_option}
 use Rattle.std.specs.Option.{option_map_or, option_or}
 use Rattle.sql_base.specs.Laws.{either_none}
@@ -9,6 +9,7 @@ use Rattle.mig_lens.specs.Lens.{unfilled}
 use Rattle.mig_lens.specs.declared.columns.Lens.{Lens}
 use Rattle.mig_lens.specs.declared.columns.Side.{Side}
 use Rattle.mig_lens.specs.declared.columns.Side.TheVariants.{Old, New}
+use Rattle.mig_lens.specs.declared.faults.Kind.{Kind}
 use Rattle.mig_lens.specs.declared.plans.Fate.{Fate}
 use Rattle.mig_lens.specs.declared.plans.Plan.{Plan}
 use Rattle.mig_lens.specs.Layout.{has_mark}
@@ -16,15 +17,15 @@ use Rattle.mig_lens.specs.Plan.{Table, created_in, table_numbered}
 use Rattle.row_rules.specs.Accept.{clashes_on, keys_of, present, unique_cause}
 use Rattle.row_rules.specs.Changes.{after_changes, keys_changed}
 use Rattle.row_rules.specs.Outcome.{first_some}
-use Rattle.row_rules.specs.Site.{half, shape_of}
+use Rattle.row_rules.specs.Site.{half, other, shape_of}
 use Rattle.row_rules.specs.Steps.{begun_half, begun_row, new_half_cause}
 use Rattle.machine.specs.Lawful.{HasNoClash}
-use Rattle.machine.specs.Migrate.{begun_table, completed, created_tables, completed_row, invalid, invalid_in, numbers_of, started, table_without_loss, without_loss}
+use Rattle.machine.specs.Migrate.{Ending, begun_table, by_completing, by_rolling_back, created_tables, invalid, invalid_in, numbers_of, staying_row, staying_table, standing_alone, started, table_without_loss, without_loss}
 use Rattle.machine.specs.Standing.{Ascends, NumbersAscend, may_miss}
 use Rattle.machine.specs.State.{lens_among, rows_of, shared, table_on, with_rows}
 use Rattle.machine.specs.Words.{Both, Cause, Change, Kept, State}
 use Rattle.machine.proofs.Clashes.{Quiet, changed_without_clash, no_cause}
-use Rattle.machine.proofs.Completing.{completed_table}
+use Rattle.machine.proofs.Alone.{stays}
 use Rattle.machine.proofs.Joining.{on_new, pair_of}
 use Rattle.machine.proofs.LawfulRows.{all_valid, alone_never_misses, with_lens, without_lens}
 use Rattle.machine.proofs.Moving.{IsFound, Rows, each, each_append, each_both, each_found, each_so, filter_each, map_each}
@@ -126,37 +127,61 @@ started_unique s name plan h =
     (map_each (begun_table plan.fates) (HasNoClash t) s.tables (each_so (HasNoClash s) (λ u. HasNoClash t (begun_table plan.fates u)) (begun_unique s name plan) s.tables h))
     (map_each {Y = Rows} (λ number. (number, [])) (HasNoClash t) (created_in plan.fates) (each (λ number. HasNoClash t (number, [])) (empty_unique t) (created_in plan.fates)))
 
+-- ---- a version that is left alone
+
+module _ (ending : Ending) (name : List ℕ) (schema : Schema) (fates : List (ℕ × Fate)) (s : State) where
+  -- Nothing clashes among the halves that stay.
+  abbrev pub IsApart : Rows → Type 0
+  IsApart u = clashes_on (table_numbered schema u.0) (other ending.gone) u.1 (keys_of u.1) ≡ None
+
+  staying_unique : (u : Rows) → IsApart u → HasNoClash (standing_alone ending name schema fates s) (staying_table ending.gone fates u)
+  staying_unique u apart =
+      record {
+        old = mapped_clashes (table_numbered schema u.0) (staying_row ending.gone (lens_among fates u.0)) (other ending.gone) Old (λ row. refl) (λ row. refl) u.1 apart;
+        new = λ k. absurd (true≢false (sym k ∙ alone_never_misses (table_numbered schema u.0)));
+      }
+
+  pub alone_unique : Each IsApart s.tables → Each (HasNoClash (standing_alone ending name schema fates s)) (standing_alone ending name schema fates s).tables
+  alone_unique apart =
+      let t = standing_alone ending name schema fates s in
+      let g = staying_table ending.gone fates in
+      map_each g (HasNoClash t) (filter (stays schema) s.tables) (filter_each (stays schema) (λ u. HasNoClash t (g u)) s.tables (each_so IsApart (λ u. HasNoClash t (g u)) staying_unique s.tables apart))
+
 -- ---- COMPLETE
 
 valid_clashes : (found : Option Table) (causes : Table → Option Cause) (rows : List Kept) → option_and_then (λ table. option_or (causes table) (clashes_on (Some table) New rows (keys_of rows))) found ≡ None → clashes_on found New rows (keys_of rows) ≡ None
 valid_clashes None causes rows h = refl
 valid_clashes (Some table) causes rows h = (either_none (causes table) (clashes_on (Some table) New rows (keys_of rows)) h).1
 
-completed_unique_table : (s : State) (name : List ℕ) (schema : Schema) (fates : List (ℕ × Fate)) → s.mode ≡ Both name schema fates → (u : Rows) → IsFound s.tables u → invalid_in s u.0 ≡ None → HasNoClash (completed s name schema fates) (completed_table fates u)
-completed_unique_table s name schema fates is u found valid =
+completed_apart : (s : State) (name : List ℕ) (schema : Schema) (fates : List (ℕ × Fate)) → s.mode ≡ Both name schema fates →
+    (u : Rows) → IsFound s.tables u → invalid_in s u.0 ≡ None → IsApart by_completing name schema fates s u
+completed_apart s name schema fates is u found valid =
     let rows : rows_of s u.0 ≡ u.1 = ap (λ f. option_map_or (λ (table : Rows). table.1) f []) found in
     let quiet = valid_clashes (table_on s New u.0) (λ table. first_some (new_half_cause table) (rows_of s u.0)) (rows_of s u.0) valid in
     let at_rows = subst (λ rows. clashes_on (table_on s New u.0) New rows (keys_of rows) ≡ None) rows quiet in
-    let at_table = subst (λ table. clashes_on table New u.1 (keys_of u.1) ≡ None) (on_new s name schema fates is u.0) at_rows in
-    record {
-      old = mapped_clashes (table_numbered schema u.0) (completed_row (lens_among fates u.0)) New Old (λ row. refl) (λ row. refl) u.1 at_table;
-      new = λ k. absurd (true≢false (sym k ∙ alone_never_misses (table_numbered schema u.0)));
-    }
+    subst (λ table. clashes_on table New u.1 (keys_of u.1) ≡ None) (on_new s name schema fates is u.0) at_rows
 
-pub completed_unique : (s : State) (name : List ℕ) (schema : Schema) (fates : List (ℕ × Fate)) → s.mode ≡ Both name schema fates → NumbersAscend (numbers_of s) → invalid s (numbers_of s) ≡ None → Each (HasNoClash (completed s name schema fates)) (completed s name schema fates).tables
+pub completed_unique : (s : State) (name : List ℕ) (schema : Schema) (fates : List (ℕ × Fate)) → s.mode ≡ Both name schema fates → NumbersAscend (numbers_of s) → invalid s (numbers_of s) ≡ None →
+    Each (HasNoClash (standing_alone by_completing name schema fates s)) (standing_alone by_completing name schema fates s).tables
 completed_unique s name schema fates is ascend valid =
-    map_each (completed_table fates) (HasNoClash (completed s name schema fates)) (filter (λ (u : Rows). is_some (table_numbered schema u.0)) s.tables)
-    (filter_each (λ (u : Rows). is_some (table_numbered schema u.0)) (λ u. HasNoClash (completed s name schema fates) (completed_table fates u)) s.tables
-    (each_both (IsFound s.tables) (λ u. invalid_in s u.0 ≡ None) (λ u. HasNoClash (completed s name schema fates) (completed_table fates u)) (completed_unique_table s name schema fates is) s.tables (each_found s.tables ascend) (all_valid s s.tables valid)))
+    alone_unique by_completing name schema fates s
+    (each_both (IsFound s.tables) (λ u. invalid_in s u.0 ≡ None) (IsApart by_completing name schema fates s) (completed_apart s name schema fates is) s.tables (each_found s.tables ascend) (all_valid s s.tables valid))
+
+-- ---- ROLLBACK
+
+pub rolled_unique : (s : State) (fates : List (ℕ × Fate)) → Each (HasNoClash s) s.tables →
+    Each (HasNoClash (standing_alone by_rolling_back s.version s.schema fates s)) (standing_alone by_rolling_back s.version s.schema fates s).tables
+rolled_unique s fates h =
+    alone_unique by_rolling_back s.version s.schema fates s (each_so (HasNoClash s) (IsApart by_rolling_back s.version s.schema fates s) (λ u h. h.old) s.tables h)
 
 -- ---- tidying
 
-kept_unique : (s : State) (u : Rows) → HasNoClash s u → HasNoClash (emptied s) (table_without_loss u)
-kept_unique s u h =
+kept_unique : (s : State) (left : ℕ) (k : Kind) (u : Rows) → HasNoClash s u → HasNoClash (emptied left k s) (table_without_loss u)
+kept_unique s left k u h =
     record {
       old = mapped_clashes (table_on s Old u.0) without_loss Old Old (λ row. refl) (λ row. refl) u.1 h.old;
       new = λ k. mapped_clashes (table_on s New u.0) without_loss New New (λ row. refl) (λ row. refl) u.1 (h.new k);
     }
 
-pub emptied_unique : (s : State) → Each (HasNoClash s) s.tables → Each (HasNoClash (emptied s)) (emptied s).tables
-emptied_unique s h = map_each table_without_loss (HasNoClash (emptied s)) s.tables (each_so (HasNoClash s) (λ u. HasNoClash (emptied s) (table_without_loss u)) (kept_unique s) s.tables h)
+pub emptied_unique : (s : State) (left : ℕ) (k : Kind) → Each (HasNoClash s) s.tables → Each (HasNoClash (emptied left k s)) (emptied left k s).tables
+emptied_unique s left k h = map_each table_without_loss (HasNoClash (emptied left k s)) s.tables (each_so (HasNoClash s) (λ u. HasNoClash (emptied left k s) (table_without_loss u)) (kept_unique s left k) s.tables h)

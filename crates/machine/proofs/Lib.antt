@@ -1,5 +1,6 @@
 pub mod Accepting
 pub mod AgreeingChanges
+pub mod Alone
 pub mod Answering
 pub mod Changing
 pub mod Choosing
@@ -20,12 +21,15 @@ pub mod Lines
 pub mod Losing
 pub mod Missing
 pub mod Moving
+pub mod OldHalves
 pub mod Outcomes
 pub mod Pairs
+pub mod Phased
 pub mod Placing
 pub mod Refusing
 pub mod Replacing
 pub mod Replying
+pub mod RollingBack
 pub mod Running
 pub mod SettledJobs
 pub mod SiteChanges
@@ -34,4 +38,5 @@ pub mod SoundChanges
 pub mod StandingSites
 pub mod StandingTables
 pub mod Starting
+pub mod Tidied
 pub mod Tidying

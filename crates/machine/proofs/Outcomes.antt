@@ -11,7 +11,7 @@ use Rattle.machine.specs.declared.events.Reply.TheVariants.{Filled, Refused}
 use Rattle.machine.specs.declared.states.State.{State}
 use Rattle.mig_lens.specs.declared.faults.Refusal.{Refusal}
 use Rattle.machine.specs.Done.{CommandOutcome, Done, Outcome, Wrote, as_outcome}
-use Rattle.machine.specs.Migrate.{complete, fill_keys, may_not_fill, start, unfilled_tables}
+use Rattle.machine.specs.Migrate.{complete, fill_keys, may_not_fill, rollback, start, unfilled_tables}
 use Rattle.machine.specs.Standing.{IsState}
 use Rattle.machine.specs.State.{missing_keys}
 use Rattle.machine.specs.Statement.{no_memory}
@@ -78,6 +78,7 @@ pub record Events (s : State) (Q : Reply → State → Type 0) : Type 0 where
   pub start : (asked : Asked) → Holds Q (start s asked)
   pub some : (number : ℕ) (chosen : ℤ → Bool) → 1 ≤ length (filter chosen (missing_keys s number)) → Holds Q (fill_keys s number (filter chosen (missing_keys s number)))
   pub complete : Holds Q (complete s)
+  pub rollback : Holds Q (rollback s)
 
 pub step_so : (s : State) (Q : Reply → State → Type 0) → Events s Q → (what : Event) (reply : Reply) (t : State) → Step s what reply t → Q reply t
 step_so s Q e (event.Said path reading) reply t (wrote, inl c) = outcome_so s Q (line_outcome s path reading) reply wrote t (λ refused _. e.refused refused) (e.line path reading) c
@@ -87,3 +88,5 @@ step_so s Q e (event.Start asked) reply t (wrote, inr c) = cc (c.0)
 step_so s Q e (event.Fill n) reply t step = batch_so s Q (record { refused = λ refusal. e.refused (Refused refusal); filled = e.refused Filled; some = e.some }) (e.refused no_memory) n reply t step
 step_so s Q e event.Complete reply t (wrote, inl c) = command_so s Q (complete s) reply wrote t (λ refusal. e.refused (Refused refusal)) e.complete c
 step_so s Q e event.Complete reply t (wrote, inr c) = cc (c.0)
+step_so s Q e event.Rollback reply t (wrote, inl c) = command_so s Q (rollback s) reply wrote t (λ refusal. e.refused (Refused refusal)) e.rollback c
+step_so s Q e event.Rollback reply t (wrote, inr c) = cc (c.0)

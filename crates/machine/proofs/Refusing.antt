@@ -11,14 +11,14 @@ use Rattle.machine.specs.declared.events.Asked.{Asked}
 use Rattle.machine.specs.declared.events.Reading.{Reading}
 use Rattle.machine.specs.Done.{CommandOutcome, Started, answered}
 use Rattle.machine.specs.Laws.{RefusalsChangeNothing, leaves_all}
-use Rattle.machine.specs.Migrate.{batch, batch_settled, complete, completed, fill_keys, finish, may_not_complete, may_not_start, planned, refused_batch, start, start_planned, started, stepped, too_heavy}
+use Rattle.machine.specs.Migrate.{batch, batch_settled, by_completing, complete, fill_keys, finish, may_not_complete, may_not_start, planned, refused_batch, roll_back, rollback, standing_alone, start, start_planned, started, stepped, too_heavy}
 use Rattle.machine.specs.State.{Shared, filling_site, missing_keys, rows_of, shared}
 use Rattle.machine.specs.Statement.{Begun, Writes, Shows, Sets, begun, changed, error_reply, finished, refused_all, settled, written, written_reply}
 use Rattle.machine.specs.Step.{line_outcome}
 use Rattle.machine.specs.Words.{Both, Calm, Cause, Change, Deep, Filled, Job, Kept, Migrates, Mode, NotRead, Read, Reply, Select, Start, State, Syntax, TooLong, Wide, map_fault}
 use Rattle.machine.specs.Words.job
 use Rattle.machine.proofs.Outcomes.{Holds, holds_guarded, holds_then, holds_without, step_so}
-use Rattle.machine.proofs.Tidying.{completing_so, tidied_so}
+use Rattle.machine.proofs.Tidying.{completing_so, rolling_back_so, tidied_so}
 
 -- The event changed nothing, where its reply says so.
 abbrev Stays : State → Reply → State → Type 0
@@ -79,10 +79,17 @@ fill_stays s number keys = by_pair (shared s number)
 
 finish_stays : (s : State) (mode : Mode) → Holds (Stays s) (finish s mode)
 finish_stays s Calm = tt
-finish_stays s (Both name schema fates) = holds_without (Stays s) (may_not_complete s) (stepped 1 (completed s name schema fates)) (λ none h. cc)
+finish_stays s (Both name schema fates) = holds_without (Stays s) (may_not_complete s) (stepped 1 (standing_alone by_completing name schema fates s)) (λ none h. cc)
 
 complete_stays : (s : State) → Holds (Stays s) (complete s)
 complete_stays s = completing_so s (Stays s) (λ is. finish_stays s s.mode) (λ is. tidied_so s (Stays s) (s.left == 2) (λ two h. cc) (λ last h. cc))
+
+roll_back_stays : (s : State) (mode : Mode) → Holds (Stays s) (roll_back s mode)
+roll_back_stays s Calm = tt
+roll_back_stays s (Both name schema fates) = λ h. cc
+
+rollback_stays : (s : State) → Holds (Stays s) (rollback s)
+rollback_stays s = rolling_back_so s (Stays s) (λ is. roll_back_stays s s.mode) (λ is h. cc)
 
 -- ---- the law
 
@@ -94,4 +101,5 @@ refusals_change_nothing s what reply t step =
       start = start_stays s;
       some = λ number chosen _. fill_stays s number (filter chosen (missing_keys s number));
       complete = complete_stays s;
+      rollback = rollback_stays s;
     }) what reply t step

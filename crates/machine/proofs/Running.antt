@@ -9,6 +9,7 @@ use Rattle.machine.proofs.Completing.{completed_stands}
 use Rattle.machine.proofs.Filling.{filled_stands}
 use Rattle.machine.proofs.Lines.{line_stands}
 use Rattle.machine.proofs.Outcomes.{Events, Stands, step_so}
+use Rattle.machine.proofs.RollingBack.{rolled_back_stands}
 use Rattle.machine.proofs.Starting.{started_stands}
 use Rattle.machine.specs.Migrate.{numbers_of}
 use Rattle.machine.specs.Step.{Run}
@@ -28,6 +29,7 @@ stay s below stands =
       start = λ asked. started_stands below s asked stands;
       some = λ number chosen _. filled_stands below s number (filter chosen (missing_keys s number)) stands;
       complete = completed_stands s stands;
+      rollback = rolled_back_stands s stands;
     }
 
 pub steps_keep_states : Below → StepsKeepStates

@@ -19,7 +19,7 @@ use Rattle.mig_lens.specs.declared.faults.Kind.{Kind}
 use Rattle.mig_lens.specs.declared.faults.Kind.TheVariants as kind
 use Rattle.mig_lens.specs.declared.faults.PlanFault.{PlanFault}
 use Rattle.mig_lens.specs.declared.faults.Refusal.{Refusal}
-use Rattle.mig_lens.specs.declared.faults.Refusal.TheVariants.{NameTaken, Unfinished}
+use Rattle.mig_lens.specs.declared.faults.Refusal.TheVariants.{NameTaken}
 use Rattle.mig_lens.specs.declared.migrations.Migration.{Migration}
 use Rattle.mig_lens.specs.declared.plans.Fate.{Fate}
 use Rattle.mig_lens.specs.declared.plans.Fate.TheVariants as fate
@@ -29,6 +29,7 @@ use Rattle.mig_lens.specs.Layout.{has_mark, is_make}
 use Rattle.mig_lens.specs.Lens.{IsWellFormed, fits, forward, outcomes, unfilled, unfilled_value}
 use Rattle.mig_lens.specs.Plan.{Table, created_in, table_numbered}
 use Rattle.mig_plan.specs.Plan.{plan_of}
+use Rattle.phase_steps.specs.Phases.{already, taken, unfinished}
 use Rattle.sql_base.specs.Laws.{all_true, both, either_none}
 use Rattle.machine.specs.declared.events.Asked.{Asked}
 use Rattle.machine.specs.declared.events.Asked.TheVariants.{Read, Refused as NotRead}
@@ -40,7 +41,7 @@ use Rattle.machine.specs.declared.states.State.{State}
 use Rattle.machine.specs.State.{fate_among, lens_among, lens_between, newer_schema, row_count, table_on}
 use Rattle.row_rules.specs.Site.{number_of, shape_of}
 use Rattle.machine.specs.Statement.{max_rows}
-use Rattle.machine.specs.Migrate.{active, begun_table, created_tables, may_not_start, numbers_of, planned, start, start_planned, started, steps_left, taken, too_heavy, unplanned, unrun}
+use Rattle.machine.specs.Migrate.{active_name, begun_table, created_tables, may_not_start, numbers_of, planned, start, start_planned, started, too_heavy, unplanned}
 use Rattle.machine.specs.Done.{Started}
 use Rattle.row_rules.specs.Steps.{begun_half, begun_row}
 use Rattle.machine.specs.Standing.{Ascends, FateAt, HalfStands, IsState, NewStands, NoneLost, NumbersAscend, RowStands, RowsStand, TablesStand, VersionStands, is_known, may_miss}
@@ -54,14 +55,7 @@ use Rattle.machine.proofs.Joining.{Pair, lacks_new, lens_at, paired, without_new
 
 -- ---- a migration that may be started
 
-abbrev left_of : Kind → Option Refusal
-left_of k = elim k [
-  | kind.Nothing ↦ None
-  | kind.Complete ↦ Some (Unfinished kind.Complete)
-  | kind.Rollback ↦ Some (Unfinished kind.Rollback)
-]
-
-no_left : (k : Kind) → left_of k ≡ None → k ≡ kind.Nothing
+no_left : (k : Kind) → unfinished k ≡ None → k ≡ kind.Nothing
 no_left kind.Nothing h = refl
 no_left kind.Complete h = cc
 no_left kind.Rollback h = cc
@@ -77,7 +71,7 @@ pub has_plan : (r : Result Plan PlanFault) (plan : Plan) → or_refusal r ≡ Ok
 has_plan (Ok found) plan h = cc
 has_plan (Err fault) plan h = cc
 
-not_active : (mode : Mode) → active mode ≡ None → mode ≡ Calm
+not_active : (mode : Mode) → already (active_name mode) ≡ None → mode ≡ Calm
 not_active Calm h = refl
 not_active (Both name schema fates) h = cc
 
@@ -467,9 +461,9 @@ module _ (below : Below) (s : State) (m : Migration) (plan : Plan) (stands : IsS
 -- What is so where nothing refuses the start.
 begins_so : (s : State) (m : Migration) (plan : Plan) → may_not_start s m ≡ None → planned s m ≡ Ok plan → Begins s m plan
 begins_so s m plan allowed is =
-    let run = either_none (unrun 0 m.operations) (option_or (steps_left s) (option_or (active s.mode) (taken s m.name))) allowed in
-    let tidy = either_none (steps_left s) (option_or (active s.mode) (taken s m.name)) run.1 in
-    let free = either_none (active s.mode) (taken s m.name) tidy.1 in
+    let names = option_or (already (active_name s.mode)) (taken s.version m.name) in
+    let tidy = either_none (unfinished s.kind) names allowed in
+    let free = either_none (already (active_name s.mode)) (taken s.version m.name) tidy.1 in
     record {
       calm = not_active s.mode free.0;
       no_steps = no_left s.kind tidy.0;

@@ -1,6 +1,6 @@
 -- What it means that a history does the work of one lane: statements and commands in one list, each in its turn.
 --
--- A task is what one line asks for. A statement is one event of the lane; so are `\start` and `\batch`, of control. `\fill` is batches, each the same event, up to one that fills nothing: FILLED, a refusal, or want of memory. `\complete` is one event a step, up to the last step or a refusal. How commands go on is our own.
+-- A task is what one line asks for. A statement is one event of the lane; so are `\start` and `\batch`, of control. `\fill` is batches, each the same event, up to one that fills nothing: FILLED, a refusal, or want of memory. `\complete` and `\rollback` are one event a step, up to the last step or a refusal. How commands go on is our own.
 use Rattle.std.specs.Prelude.{◌≡◌, ◌⊎◌, ℕ, List, [], ◌∷◌, ◌++◌, ◌==◌, Bool, true, false, not}
 use Rattle.sql_base.specs.declared.stmts.Stmt.TheVariants.{SetPath}
 use Rattle.machine.specs.declared.events.Entry.{Entry}
@@ -51,6 +51,11 @@ abbrev pub goes_on_completing : Reply → Bool
 goes_on_completing (reply.Complete step) = not (step == 3)
 goes_on_completing _ = false
 
+-- After a step of rolling back another one follows, but for the last step.
+abbrev pub goes_on_rolling_back : Reply → Bool
+goes_on_rolling_back (reply.Rollback step) = not (step == 2)
+goes_on_rolling_back _ = false
+
 -- Each of the entries is this event, and after each the task goes on.
 abbrev pub GoOn : ℕ → Event → (Reply → Bool) → List Entry → Type 0
 GoOn actor what goes_on [] = Unit {0}
@@ -74,12 +79,16 @@ Does actors path (task.Start asked) entries = Once actors.control (event.Start a
 Does actors path (task.Batch n) entries = Once actors.control (event.Fill n) entries
 Does actors path task.Fill entries = UpTo actors.control (event.Fill default_batch) goes_on_filling entries
 Does actors path task.Complete entries = UpTo actors.control event.Complete goes_on_completing entries
+Does actors path task.Rollback entries = UpTo actors.control event.Rollback goes_on_rolling_back entries
 
 -- The entries are the first events of a task that isn't done with them; or there are none.
 abbrev pub Opens : Actors → Task → List Entry → Type 0
 Opens actors task.Fill entries = GoOn actors.control (event.Fill default_batch) goes_on_filling entries
 Opens actors task.Complete entries = GoOn actors.control event.Complete goes_on_completing entries
-Opens actors _ entries = entries ≡ []
+Opens actors task.Rollback entries = GoOn actors.control event.Rollback goes_on_rolling_back entries
+Opens actors (task.Say reading) entries = entries ≡ []
+Opens actors (task.Start asked) entries = entries ≡ []
+Opens actors (task.Batch n) entries = entries ≡ []
 
 -- ---- the work
 

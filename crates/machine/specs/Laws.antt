@@ -1,6 +1,9 @@
 -- What holds of the machine's steps and runs.
-use Rattle.machine.specs.Migrate.{may_not_start, not_filled, numbers_of, planned, started}
-use Rattle.std.specs.Prelude.{◌≡◌, ◌<◌, ◌≤◌, ◌==◌, ℕ, Bool, true, false, List, None, Ok, is_none, sum_by, if◌then◌else◌, Option, Some, is_some}
+use Rattle.machine.specs.Migrate.{complete, may_not_start, not_filled, numbers_of, phase_of, planned, rollback, started}
+use Rattle.machine.specs.Done.{CommandOutcome, Done, Stepped}
+use Rattle.phase_steps.specs.declared.phases.Phase.{Phase}
+use Rattle.phase_steps.specs.Phases.{may_complete, may_roll_back, next_completing, next_rolling_back}
+use Rattle.std.specs.Prelude.{◌≡◌, ◌<◌, ◌≤◌, ◌==◌, ℕ, ℤ, Bool, true, false, List, None, Ok, Err, map, is_none, sum_by, if◌then◌else◌, Option, Some, is_some}
 use Rattle.std.specs.List.{count_by, AllByRecursion}
 use Rattle.std.specs.Option.{option_map}
 use Rattle.sql_base.specs.declared.shapes.Shape.{Shape}
@@ -15,7 +18,7 @@ use Rattle.machine.specs.declared.events.Event.{Event}
 use Rattle.machine.specs.declared.events.Event.TheVariants as event
 use Rattle.machine.specs.declared.events.Reading.{Reading}
 use Rattle.machine.specs.declared.events.Reply.{Reply}
-use Rattle.machine.specs.declared.events.Reply.TheVariants.{Delete, Insert, Select, Update, Set, Error, Start, Fill, Filled, Complete, Refused}
+use Rattle.machine.specs.declared.events.Reply.TheVariants.{Delete, Insert, Select, Update, Set, Error, Start, Fill, Filled, Complete, Rollback, Refused}
 use Rattle.row_rules.specs.declared.kinds.Kept.{Kept}
 use Rattle.machine.specs.declared.states.State.{State}
 use Rattle.mig_lens.specs.Layout.{has_mark}
@@ -23,7 +26,7 @@ use Rattle.mig_lens.specs.Lens.{forward, unfilled}
 use Rattle.row_rules.specs.Site.{shown, Beside, Site, number_of, shape_of}
 use Rattle.machine.specs.State.{Found, beginning, site_of, Shared, rows_of, shared, table_of, table_on, lens_among}
 use Rattle.machine.specs.Lawful.{IsLawful}
-use Rattle.machine.specs.Follows.{goes_on_completing, goes_on_filling}
+use Rattle.machine.specs.Follows.{goes_on_completing, goes_on_filling, goes_on_rolling_back}
 use Rattle.machine.specs.Standing.{IsState, Ascends, RowStands, RowsStand, is_known}
 use Rattle.machine.specs.Statement.{max_rows, Shows, Writes, begun}
 use Rattle.machine.specs.Step.{IsPlainStep, LaneRun, LaneStep, Run, Step}
@@ -52,6 +55,7 @@ leaves_all (Start name) = false
 leaves_all (Fill table count first last) = false
 leaves_all Filled = false
 leaves_all (Complete step) = false
+leaves_all (Rollback step) = false
 
 -- Such an event changes nothing.
 abbrev pub RefusalsChangeNothing : Type 0
@@ -119,6 +123,42 @@ StepsLeaveFewer = (s : State) (reply : Reply) (t : State) → Step s event.Compl
 -- They are between one and three.
 abbrev pub StepsAreFew : Type 0
 StepsAreFew = (s : State) → (1 ≤ steps_due s) × (steps_due s ≤ 3)
+
+-- At most how many events `\rollback` may come to: both steps, the one that is left, or the one that is refused.
+abbrev pub steps_back_of : Kind → ℕ
+steps_back_of kind.Nothing = 2
+steps_back_of kind.Complete = 1
+steps_back_of kind.Rollback = 1
+
+abbrev pub steps_back_due : State → ℕ
+steps_back_due s = steps_back_of s.kind
+
+-- A step that isn't the last leaves fewer.
+abbrev pub StepsBackLeaveFewer : Type 0
+StepsBackLeaveFewer = (s : State) (reply : Reply) (t : State) → Step s event.Rollback reply t → goes_on_rolling_back reply ≡ true → steps_back_due t < steps_back_due s
+
+-- They are one or two.
+abbrev pub StepsBackAreFew : Type 0
+StepsBackAreFew = (s : State) → (1 ≤ steps_back_due s) × (steps_back_due s ≤ 2)
+
+-- What stands against a command in the phase refuses it; and an accepted one does the step that comes next in the phase.
+pub record SaidByPhase (may : Phase → Option Refusal) (next : Phase → Option ℕ) (command : State → CommandOutcome) (s : State) : Type 0 where
+  pub refused : (refusal : Refusal) → may (phase_of s) ≡ Some refusal → command s ≡ Err refusal
+  pub done : (done : Done) → command s ≡ Ok done → option_map Stepped (next (phase_of s)) ≡ Some done.wrote
+
+-- The phase alone says which step of completing may come, and which step of rolling back.
+abbrev pub PhasesSaySteps : Type 0
+PhasesSaySteps = (s : State) → SaidByPhase may_complete next_completing complete s × SaidByPhase may_roll_back next_rolling_back rollback s
+
+-- Where nothing stands against rolling back in the phase it isn't refused, whatever the rows are.
+abbrev pub RollingBackIsDone : Type 0
+RollingBackIsDone = (s : State) → may_roll_back (phase_of s) ≡ None → (done : Done) × (rollback s ≡ Ok done)
+
+-- What the version that stood before the migration has of each of its rows is what it had before a step of rolling back.
+abbrev pub OldHalvesStay : Type 0
+OldHalvesStay =
+    (s : State) (reply : Reply) (t : State) (number : ℕ) → IsState s → Step s event.Rollback reply t → is_some (table_on s Old number) ≡ true →
+    map {B = ℤ × Option (List Value)} (λ row. (row.key, row.halves.old)) (rows_of t number) ≡ map {B = ℤ × Option (List Value)} (λ row. (row.key, row.halves.old)) (rows_of s number)
 
 -- ---- tables, sites and rows of a state that stands
 

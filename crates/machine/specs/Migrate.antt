@@ -1,74 +1,44 @@
 -- What the machine answers to the commands of a migration, and what they leave.
 --
--- That a migration is started, that the rows which stood then are filled by `up` in batches, and that it is then completed, which takes the old version away: pgroll's documentation. All else is our own.
-use Rattle.std.specs.Prelude.{ℕ, ◌+◌, ℤ, List, [], ◌∷◌, ◌++◌, ◌==◌, Bool, true, false, ◌||◌, Option, Some, None, Result, Ok, Err, codes, decimal, is_some, length, map, nat_lt, not, take, unwrap_or, sum_by, if◌then◌else◌}
+-- That a migration is started, that the rows which stood then are filled by `up` in batches, and that it is then completed, which takes the old version away, or rolled back, which takes the new one away: pgroll's documentation. All else is our own.
+use Rattle.std.specs.Prelude.{ℕ, ◌+◌, ℤ, List, [], ◌∷◌, ◌++◌, ◌==◌, Bool, false, ◌||◌, Option, Some, None, Result, Ok, Err, codes, is_some, length, map, nat_lt, not, take, unwrap_or, sum_by, if◌then◌else◌}
 use Rattle.std.specs.List.{filter, filter_map, list_any, zip}
 use Rattle.std.specs.Option.{option_and_then, option_map, option_map_or, option_or}
-use Rattle.std.specs.Str.{bytes_eq}
 use Rattle.sql_base.specs.Weight.{value_weight}
 use Rattle.sql_eval.specs.Row.{least}
 use Rattle.mig_lens.specs.declared.faults.PlanFault.{PlanFault}
 use Rattle.mig_lens.specs.declared.faults.PlanFault.TheVariants as plan_fault
-use Rattle.mig_lens.specs.declared.faults.Refusal.TheVariants.{AlreadyActive, BackfillRefused, BadExpr, BadJson, BadType, ColumnTwice, DownNeeded, Exists, KeyColumn, Limit, NameTaken, NoActive, NoSuchColumn, NoSuchTable, NotFilled, NotValid, Unfinished, UpNeeded}
-use Rattle.mig_lens.specs.declared.migrations.Op.{Op}
-use Rattle.mig_lens.specs.declared.migrations.Op.TheVariants as op
-use Rattle.mig_lens.specs.Lens.{is_carry}
+use Rattle.mig_lens.specs.declared.faults.Refusal.TheVariants.{BackfillRefused, BadExpr, BadType, ColumnTwice, DownNeeded, Exists, KeyColumn, Limit, NoActive, NoSuchColumn, NoSuchTable, NotFilled, NotValid, Unfinished, UpNeeded}
+use Rattle.mig_lens.specs.Lens.{is_carry, unfilled}
 use Rattle.mig_lens.specs.Plan.{created_in}
 use Rattle.mig_plan.specs.Plan.{plan_of}
+use Rattle.phase_steps.specs.declared.phases.Phase.{Phase}
+use Rattle.phase_steps.specs.Phases.{may_fill, may_start}
 use Rattle.row_rules.specs.Changes.{cause_together, changes}
 use Rattle.row_rules.specs.Rows.{rows_at}
-use Rattle.row_rules.specs.Site.{name_of, number_of}
+use Rattle.row_rules.specs.Site.{half, name_of, number_of, other}
 use Rattle.row_rules.specs.Steps.{begun_row, invalid_cause, show_heavy}
 use Rattle.machine.specs.Done.{CommandOutcome, Done, Started, Stepped, answered}
 use Rattle.machine.specs.State.{Shared, filling_site, lens_among, missing_keys, rows_of, shared, table_on}
 use Rattle.machine.specs.Statement.{changed}
-use Rattle.machine.specs.Words.{Asked, Both, Calm, Cause, Cell, Change, Complete, Fate, Filled, Kept, Lens, Migrates, Migration, Mode, New, NotRead, Plan, Refusal, Schema, Start, State, Value, and_then, first_some, guarded, map_fault, table_numbered, without}
+use Rattle.machine.specs.Words.{Asked, Both, Calm, Cause, Cell, Change, Complete, Fate, Filled, Halves, Kept, Kind, Lens, Migrates, Migration, Mode, New, NotRead, Old, Plan, Refusal, Rollback, Schema, Side, Start, State, Value, and_then, first_some, guarded, map_fault, table_numbered, without}
 use Rattle.machine.specs.Words.job
 use Rattle.machine.specs.Words.kind
 
--- Steps of tidying are left, of this kind: P3.
-abbrev pub steps_left : State → Option Refusal
-steps_left s = elim s.kind [
-  | kind.Nothing ↦ None
-  | kind.Complete ↦ Some (Unfinished kind.Complete)
-  | kind.Rollback ↦ Some (Unfinished kind.Rollback)
-]
+-- The new version's name, while a migration is active.
+abbrev pub active_name : Mode → Option (List ℕ)
+active_name Calm = None
+active_name (Both name schema fates) = Some name
+
+-- How far a migration has come: which commands may come, and which step each of them takes next, rests on this alone.
+abbrev pub phase_of : State → Phase
+phase_of s = record { version = s.version; active = active_name s.mode; left = s.left; kind = s.kind }
 
 -- ---- START
 
--- Whether an operation is run yet: so far those on columns, and create_table.
-abbrev pub is_run : Op → Bool
-is_run (op.CreateTable name columns) = true
-is_run (op.DropTable name) = false
-is_run (op.RenameTable from to) = false
-is_run (op.AddColumn name column up) = true
-is_run (op.DropColumn table column down) = true
-is_run (op.RenameColumn table from to) = true
-is_run (op.AlterColumn table column ty nullable default unique check up down) = true
-is_run (op.CreateConstraint table name columns check up down) = false
-is_run (op.DropConstraint table name up down) = false
-
--- An operation that isn't run yet, by its place.
-abbrev pub not_yet : ℕ → Refusal
-not_yet at = BadJson (codes "operations[" ++ (decimal at ++ codes "]"))
-
--- The first of these operations that isn't; the first of them has this place.
-abbrev pub unrun : ℕ → List Op → Option Refusal
-unrun at [] = None
-unrun at (op ∷ ops) = if is_run op then unrun (at + 1) ops else Some (not_yet at)
-
--- P1: a migration is active.
-abbrev pub active : Mode → Option Refusal
-active Calm = None
-active (Both name schema fates) = Some (AlreadyActive name)
-
--- P6: the current version has the migration's name.
-abbrev pub taken : State → List ℕ → Option Refusal
-taken s name = if bytes_eq name s.version then Some (NameTaken name) else None
-
--- Why the migration can't be started now: an operation that isn't run yet, then P3, P1 and P6.
+-- Why the migration can't be started now: P3, then P1 and P6.
 abbrev pub may_not_start : State → Migration → Option Refusal
-may_not_start s m = option_or (unrun 0 m.operations) (option_or (steps_left s) (option_or (active s.mode) (taken s m.name)))
+may_not_start s m = may_start m.name (phase_of s)
 
 -- A migration that has no plan is refused for the plan's fault. (Planning as it is defined never wants memory, so the last of these isn't met.)
 abbrev pub unplanned : PlanFault → Refusal
@@ -131,13 +101,9 @@ max_batch = 10000
 abbrev pub bad_batch : ℕ → Option Refusal
 bad_batch n = if n == 0 || nat_lt max_batch n then Some (Limit (codes "batch")) else None
 
-abbrev pub inactive : Mode → Option Refusal
-inactive Calm = Some NoActive
-inactive (Both name schema fates) = None
-
 -- Why no batch can be filled: P20, then P3, then P2.
 abbrev pub may_not_fill : State → ℕ → Option Refusal
-may_not_fill s n = option_or (bad_batch n) (option_or (steps_left s) (inactive s.mode))
+may_not_fill s n = option_or (bad_batch n) (may_fill (phase_of s))
 
 abbrev pub refused_batch : List ℕ → Cause → Refusal
 refused_batch table cause = BackfillRefused table cause.key cause.code
@@ -205,6 +171,27 @@ numbers_of s = map (λ table. table.0) s.tables
 abbrev pub may_not_complete : State → Option Refusal
 may_not_complete s = option_or (not_filled s (numbers_of s)) (option_map not_valid (invalid s (numbers_of s)))
 
+-- ---- how a migration ends
+
+-- How a migration ends: the version of which side goes, and which steps of tidying are left then.
+pub record Ending : Type 0 where
+  pub gone : Side
+  pub kind : Kind
+  pub left : ℕ
+
+-- The new version stays, and two steps are left.
+abbrev pub by_completing : Ending
+by_completing = record { gone = Old; kind = kind.Complete; left = 2 }
+
+-- The old version stays, and one step is left.
+abbrev pub by_rolling_back : Ending
+by_rolling_back = record { gone = New; kind = kind.Rollback; left = 1 }
+
+-- How a lens has the columns of a side.
+abbrev pub cells_on : Side → Lens → List Cell
+cells_on Old lens = lens.old_cols
+cells_on New lens = lens.new_cols
+
 -- The weight of the values of a half that its lens doesn't carry.
 abbrev pub lost_value : Cell × Value → ℕ
 lost_value place = if is_carry place.0 then 0 else value_weight place.1
@@ -212,50 +199,49 @@ lost_value place = if is_carry place.0 then 0 else value_weight place.1
 abbrev pub lost_weight : List Cell → List Value → ℕ
 lost_weight cells values = sum_by lost_value (zip cells values)
 
--- The new half of a row is the one that stays. What is lost with the old version is what the row showed there in columns that aren't carried.
-abbrev pub completed_row : Option Lens → Kept → Kept
-completed_row lens row = record {
+-- What a row shows through a version of a table that both have.
+abbrev pub shown_on : Side → Lens → Halves → List Value
+shown_on Old lens halves = unwrap_or halves.old []
+shown_on New lens halves = unwrap_or halves.new (unfilled lens (unwrap_or halves.old []))
+
+-- The half of the side that stays is the one that the row has then. What is lost with the other version is what the row showed there in columns that aren't carried.
+abbrev pub staying_row : Side → Option Lens → Kept → Kept
+staying_row gone lens row = record {
   key = row.key;
-  halves = record { old = row.halves.new; new = None };
-  lost = option_map_or (λ lens. lost_weight lens.old_cols (unwrap_or row.halves.old [])) lens 0;
+  halves = record { old = half (other gone) row.halves; new = None };
+  lost = option_map_or (λ lens. lost_weight (cells_on gone lens) (shown_on gone lens row.halves)) lens 0;
 }
 
--- The tables that the new version has, with the rows that stay.
-abbrev pub completed_tables : Schema → List (ℕ × Fate) → List (ℕ × List Kept) → List (ℕ × List Kept)
-completed_tables schema fates tables =
-    map (λ table. (table.0, map (completed_row (lens_among fates table.0)) table.1)) (filter (λ table. is_some (table_numbered schema table.0)) tables)
+abbrev pub staying_table : Side → List (ℕ × Fate) → ℕ × List Kept → ℕ × List Kept
+staying_table gone fates table = (table.0, map (staying_row gone (lens_among fates table.0)) table.1)
 
--- How many columns of a table are lost with the old version.
-abbrev pub lost_columns_in : Lens → ℕ
-lost_columns_in lens = length (filter (λ cell. not (is_carry cell)) lens.old_cols)
+-- The tables that the version which stays has, with the rows that stay.
+abbrev pub staying_tables : Side → Schema → List (ℕ × Fate) → List (ℕ × List Kept) → List (ℕ × List Kept)
+staying_tables gone schema fates tables = map (staying_table gone fates) (filter (λ table. is_some (table_numbered schema table.0)) tables)
+
+-- How many columns of a table are lost with the version of a side.
+abbrev pub lost_columns_in : Side → Lens → ℕ
+lost_columns_in gone lens = length (filter (λ cell. not (is_carry cell)) (cells_on gone lens))
 
 -- Of each of these tables that loses any.
-abbrev pub lost_in_table : List (ℕ × Fate) → ℕ × List Kept → Option (ℕ × ℕ)
-lost_in_table fates table =
-    option_and_then (λ lens. if nat_lt 0 (lost_columns_in lens) then Some (table.0, lost_columns_in lens) else None) (lens_among fates table.0)
+abbrev pub lost_in_table : Side → List (ℕ × Fate) → ℕ × List Kept → Option (ℕ × ℕ)
+lost_in_table gone fates table =
+    option_and_then (λ lens. if nat_lt 0 (lost_columns_in gone lens) then Some (table.0, lost_columns_in gone lens) else None) (lens_among fates table.0)
 
--- The new version alone stands, with two steps of tidying left.
-abbrev pub completed : State → List ℕ → Schema → List (ℕ × Fate) → State
-completed s name schema fates =
-    let tables = completed_tables schema fates s.tables in
+-- The version of this name and these tables alone stands, with the steps of tidying left that the ending says.
+abbrev pub standing_alone : Ending → List ℕ → Schema → List (ℕ × Fate) → State → State
+standing_alone ending name schema fates s =
+    let tables = staying_tables ending.gone schema fates s.tables in
     record {
       version = name;
       schema = schema;
       mode = Calm;
-      left = 2;
-      kind = kind.Complete;
+      left = ending.left;
+      kind = ending.kind;
       next_table = s.next_table;
       tables = tables;
-      lost_columns = filter_map (lost_in_table fates) tables;
+      lost_columns = filter_map (lost_in_table ending.gone fates) tables;
     }
-
--- A step of completing is done.
-abbrev pub stepped : ℕ → State → Done
-stepped step t = record { reply = Complete step; after = t; wrote = Stepped step }
-
-abbrev pub finish : State → Mode → CommandOutcome
-finish s Calm = Err NoActive
-finish s (Both name schema fates) = without (may_not_complete s) (stepped 1 (completed s name schema fates))
 
 -- Nothing is lost any more.
 abbrev pub without_loss : Kept → Kept
@@ -263,6 +249,16 @@ without_loss row = record row { lost = 0 }
 
 abbrev pub table_without_loss : ℕ × List Kept → ℕ × List Kept
 table_without_loss table = (table.0, map without_loss table.1)
+
+-- ---- COMPLETE, step by step
+
+-- A step of completing is done.
+abbrev pub stepped : ℕ → State → Done
+stepped step t = record { reply = Complete step; after = t; wrote = Stepped step }
+
+abbrev pub finish : State → Mode → CommandOutcome
+finish s Calm = Err NoActive
+finish s (Both name schema fates) = without (may_not_complete s) (stepped 1 (standing_alone by_completing name schema fates s))
 
 -- The next step of tidying: the second step of completing, which takes what was lost, or the third, which is the last. Nothing that a statement shows changes.
 abbrev pub tidied : State → Done
@@ -277,4 +273,27 @@ complete s = elim s.kind [
   | kind.Nothing ↦ finish s s.mode
   | kind.Complete ↦ Ok (tidied s)
   | kind.Rollback ↦ Err (Unfinished kind.Rollback)
+]
+
+-- ---- ROLLBACK
+
+-- A step of rolling back is done. Its number among all steps follows those of the three steps of completing.
+abbrev pub stepped_back : ℕ → State → Done
+stepped_back step t = record { reply = Rollback step; after = t; wrote = Stepped (step + 3) }
+
+-- The old version alone stands again, with the old halves as they are. It isn't looked at whether a new half is missing.
+abbrev pub roll_back : State → Mode → CommandOutcome
+roll_back s Calm = Err NoActive
+roll_back s (Both name schema fates) = Ok (stepped_back 1 (standing_alone by_rolling_back s.version s.schema fates s))
+
+-- The second step, which is the last, takes what was lost. Nothing that a statement shows changes.
+abbrev pub tidied_back : State → Done
+tidied_back s = stepped_back 2 (record s { left = 0; kind = kind.Nothing; tables = map table_without_loss s.tables; lost_columns = [] })
+
+-- ROLLBACK does one step: where steps of rolling back are left, the next one; else the first. P3 comes before P2.
+abbrev pub rollback : State → CommandOutcome
+rollback s = elim s.kind [
+  | kind.Nothing ↦ roll_back s s.mode
+  | kind.Complete ↦ Err (Unfinished kind.Complete)
+  | kind.Rollback ↦ Ok (tidied_back s)
 ]

@@ -3,7 +3,7 @@ use Rattle.std.specs.Prelude.{◌≡◌, ◌≤◌, ◌⊎◌, ℕ, ◌+◌, ℤ
 use Rattle.std.specs.List.{filter}
 use Rattle.machine.specs.declared.events.Entry.{Entry}
 use Rattle.machine.specs.Done.{Outcome, Wrote, after_of, answered, as_outcome, reply_to, wrote_by}
-use Rattle.machine.specs.Migrate.{complete, fill_keys, least_fill, may_not_fill, start, unfilled_tables}
+use Rattle.machine.specs.Migrate.{complete, fill_keys, least_fill, may_not_fill, rollback, start, unfilled_tables}
 use Rattle.machine.specs.State.{missing_keys}
 use Rattle.machine.specs.Statement.{answer, no_memory, over_limit, syntax}
 use Rattle.machine.specs.Words.{C22003, Deep, Error, Event, Filled, Read, Reading, Refusal, Refused, Reply, State, Syntax, TooLong, Wide}
@@ -29,6 +29,7 @@ outcome_of s (event.Said path reading) = line_outcome s path reading
 outcome_of s (event.Start asked) = as_outcome (start s asked)
 outcome_of s (event.Fill n) = as_outcome (least_fill s n)
 outcome_of s event.Complete = as_outcome (complete s)
+outcome_of s event.Rollback = as_outcome (rollback s)
 
 -- The reply, what was written and the state afterwards are the outcome's.
 abbrev pub ComesTo : State → Outcome → Reply → Wrote → State → Type 0
@@ -63,6 +64,7 @@ Comes s (event.Said path reading) reply wrote t = ComesTo s (outcome_of s (event
 Comes s (event.Start asked) reply wrote t = ComesTo s (outcome_of s (event.Start asked)) reply wrote t
 Comes s (event.Fill n) reply wrote t = FillStep (may_not_fill s n) s n reply wrote t
 Comes s event.Complete reply wrote t = ComesTo s (outcome_of s event.Complete) reply wrote t
+Comes s event.Rollback reply wrote t = ComesTo s (outcome_of s event.Rollback) reply wrote t
 
 -- The events that may be answered want of memory, which is the one free reply: statements and batches. Whether memory really was wanting isn't said.
 abbrev pub may_want : Event → Bool
@@ -70,6 +72,7 @@ may_want (event.Said path reading) = true
 may_want (event.Start asked) = false
 may_want (event.Fill n) = true
 may_want event.Complete = false
+may_want event.Rollback = false
 
 -- The reply is want of memory, and nothing changed.
 abbrev pub FindsNoMemory : State → Event → Reply → Wrote → State → Type 0

@@ -40,7 +40,7 @@ pub use Rattle.machine.specs.declared.events.Event.TheVariants as event
 pub use Rattle.machine.specs.declared.events.Reading.{Reading}
 pub use Rattle.machine.specs.declared.events.Reading.TheVariants.{Stmt as Read, TooLong, Syntax, Wide, Deep}
 pub use Rattle.machine.specs.declared.events.Reply.{Reply}
-pub use Rattle.machine.specs.declared.events.Reply.TheVariants.{Insert, Update, Delete, Select, Set, Error, Start, Fill, Filled, Complete, Refused}
+pub use Rattle.machine.specs.declared.events.Reply.TheVariants.{Insert, Update, Delete, Select, Set, Error, Start, Fill, Filled, Complete, Rollback, Refused}
 pub use Rattle.machine.specs.declared.states.Mode.{Mode}
 pub use Rattle.machine.specs.declared.states.Mode.TheVariants.{Calm, Both}
 pub use Rattle.machine.specs.declared.states.State.{State}

@@ -40,6 +40,8 @@ pub enum Event {
     Fill(u32),
     /// The migration is to be completed, or the next step of tidying after that to be done.
     Complete,
+    /// The migration is to be rolled back, or the step of tidying after that to be done.
+    Rollback,
 }
 
 /// What the machine answers.
@@ -75,6 +77,8 @@ pub enum Reply {
     Filled,
     /// This step of completing is done: 1 for the migration's completion, 2 and 3 for the tidying after it.
     Complete(u8),
+    /// This step of rolling back is done: 1 for the return to the old version, 2 for the tidying after it.
+    Rollback(u8),
     /// The command is refused. Nothing changed.
     Refused(Refusal),
 }
@@ -117,6 +121,7 @@ impl Copying for Event {
             Event::Start(asked) => Ok(Event::Start(asked.copy(alloc)?)),
             Event::Fill(count) => Ok(Event::Fill(*count)),
             Event::Complete => Ok(Event::Complete),
+            Event::Rollback => Ok(Event::Rollback),
         }
     }
 }
@@ -159,6 +164,7 @@ impl Copying for Reply {
             }),
             Reply::Filled => Ok(Reply::Filled),
             Reply::Complete(step) => Ok(Reply::Complete(*step)),
+            Reply::Rollback(step) => Ok(Reply::Rollback(*step)),
             Reply::Refused(refusal) => Ok(Reply::Refused(refusal.copy(alloc)?)),
         }
     }

@@ -13,11 +13,13 @@ ghost use Rattle.machine.specs.State as state;
 ghost use Rattle.machine.specs.Statement.{changed};
 
 use crate::events::Reply;
-use crate::refusals::{inactive, limit, refused_batch, steps_left};
+use crate::phases::phase_of;
+use crate::refusals::{limit, refused_batch};
 use crate::states::State;
 use crate::tables::{SharedTable, filling_site, rows_of, shared};
 use crate::writing::job_done;
 use mig_lens::Refusal;
+use phase_steps::may_fill;
 use row_rules::{Cause, Change, Job, Kept, Stop, any_missing, cause_together, changes};
 use sql_base::{Copying, List, NoMemory};
 use std::alloc::Global;
@@ -35,10 +37,7 @@ pub fn may_not_fill(alloc: Global, s: &State, n: u32) -> Result<Option<Refusal>,
     if n == 0 || n > MAX_BATCH {
         return Ok(Some(limit(alloc, b"batch")?));
     }
-    match steps_left(s) {
-        Some(refusal) => Ok(Some(refusal)),
-        None => Ok(inactive(&s.mode)),
-    }
+    Ok(may_fill(phase_of(s)))
 }
 
 // ---- which rows it takes

@@ -1,6 +1,6 @@
 //! Laws of the machine, over its definitions alone. Each is the contract of a function that does nothing.
 ghost use Rattle.machine.specs.Below.{Below};
-ghost use Rattle.machine.specs.Laws.{StepsKeepStates, RunsReachStates, RefusalsChangeNothing, BegunHalvesAreMade, OldShowsOldHalves, PlainStepsAreSteps, LaneStepsAreSteps, LaneRunsAreRuns, StepsKeepLaws, RunsReachLawful, OnlyCommandsAreRefused, BatchesLeaveFewer, UnfilledRowsAreFew, StepsLeaveFewer, StepsAreFew, FoundStands, WritesStand, ShowsStand, SharedStands, FillingStands, RowsStandBy, RowsOnSites, ChangesKeep, ChangesAgree, TablesHaveTheirRows, TablesAreKnown, BothAreShared, SharedByLenses, FilledRowsHaveHalves, StartsStand};
+ghost use Rattle.machine.specs.Laws.{StepsKeepStates, RunsReachStates, RefusalsChangeNothing, BegunHalvesAreMade, OldShowsOldHalves, PlainStepsAreSteps, LaneStepsAreSteps, LaneRunsAreRuns, StepsKeepLaws, RunsReachLawful, OnlyCommandsAreRefused, BatchesLeaveFewer, UnfilledRowsAreFew, StepsLeaveFewer, StepsAreFew, StepsBackLeaveFewer, StepsBackAreFew, PhasesSaySteps, RollingBackIsDone, OldHalvesStay, FoundStands, WritesStand, ShowsStand, SharedStands, FillingStands, RowsStandBy, RowsOnSites, ChangesKeep, ChangesAgree, TablesHaveTheirRows, TablesAreKnown, BothAreShared, SharedByLenses, FilledRowsHaveHalves, StartsStand};
 
 use mig_lens::laws::{carried_columns_keep_their_values, made_halves_fit};
 use mig_plan::laws::{
@@ -87,6 +87,24 @@ pub fn batches_come_to_an_end()
 pub fn completing_comes_to_an_end()
     ensures fewer { StepsLeaveFewer }
     ensures few { StepsAreFew }
+{}
+
+/// A step of rolling back that isn't the last leaves fewer steps that may come, and there are at most two.
+pub fn rolling_back_comes_to_an_end()
+    ensures fewer { StepsBackLeaveFewer }
+    ensures few { StepsBackAreFew }
+{}
+
+/// How far a migration has come says alone which step of completing or of rolling back comes next, and what stands against
+/// it but for the rows. The rows never stand against rolling back.
+pub fn phases_say_steps()
+    ensures steps { PhasesSaySteps }
+    ensures accepted { RollingBackIsDone }
+{}
+
+/// Rolling back leaves the rows of the old version as that has them at this moment.
+pub fn rolling_back_keeps_old_halves()
+    ensures { OldHalvesStay }
 {}
 
 /// In a state that stands a table that a path finds is its version's, its shape is well formed, and the lens of its site,

@@ -11,6 +11,7 @@ use crate::complete::complete;
 use crate::events::{Event, Reading, Reply};
 use crate::fill::least_fill;
 use crate::replies::{over_limit, syntax, wide_literal};
+use crate::rollback::rollback;
 use crate::start::start;
 use crate::statement::{BegunRef, begun};
 use crate::states::State;
@@ -95,6 +96,7 @@ fn event_outcome(alloc: Global, s: &State, event: &Event) -> Result<(Reply, Stat
         Event::Start(asked) => with_refusal(start(alloc, s, asked)),
         Event::Fill(count) => with_refusal(least_fill(alloc, s, *count)),
         Event::Complete => with_refusal(complete(alloc, s)),
+        Event::Rollback => with_refusal(rollback(alloc, s)),
     }
 }
 

@@ -1,5 +1,5 @@
 //! What the start of a migration comes to.
-ghost use Rattle.std.specs.Prelude.{◌≡◌, ◌+◌, ◌++◌, ◌<◌, ◌^◌, [], IfOk, None, Some, length, map};
+ghost use Rattle.std.specs.Prelude.{◌≡◌, ◌+◌, ◌++◌, ◌<◌, ◌^◌, [], IfOk, length, map};
 ghost use Rattle.std.specs.List.{list_any};
 ghost use Rattle.mig_lens.specs.Plan.{created_in, created_number};
 ghost use Rattle.row_rules.specs.Outcome.{Answers};
@@ -8,88 +8,26 @@ ghost use Rattle.machine.specs.Migrate as spec;
 ghost use Rattle.machine.specs.Plain.{replied};
 
 use crate::events::{Asked, Reply};
-use crate::refusals::{limit, steps_left};
+use crate::phases::phase_of;
+use crate::refusals::limit;
 use crate::states::{Mode, State};
 use crate::tables::lens_among;
-use mig_lens::{Fate, Lens, Migration, Op, Plan, PlanFault, Refusal};
+use mig_lens::{Fate, Lens, Migration, Plan, PlanFault, Refusal};
 use mig_plan::laws::created_tables_are_numbered;
 use mig_plan::plan;
+use phase_steps::may_start;
 use row_rules::{Kept, Stop, begun_row, show_heavy};
 use sql_base::{Copying, List, Name, NoMemory};
 use std::alloc::Global;
 
 // ---- whether it may start
 
-// An operation that isn't run yet, by its place.
-fn not_yet(alloc: Global, at: u64) -> Result<Refusal, NoMemory>
-    ensures { IfOk result (λ refusal. refusal ≡ spec.not_yet at) }
-{
-    let path = format!(in alloc; "operations[{at}]")?;
-    Ok(Refusal::BadJson(Name::from_slice(alloc, path.as_bytes())?))
-}
-
-fn is_run(op: &Op) -> bool
-    ensures { result ≡ spec.is_run op.now }
-{
-    match op {
-        Op::CreateTable { .. }
-        | Op::AddColumn { .. }
-        | Op::DropColumn { .. }
-        | Op::RenameColumn { .. }
-        | Op::AlterColumn { .. } => true,
-        Op::DropTable { .. }
-        | Op::RenameTable { .. }
-        | Op::CreateConstraint { .. }
-        | Op::DropConstraint { .. } => false,
-    }
-}
-
-// The first of these operations that isn't run yet.
-fn unrun(alloc: Global, ops: &[Op]) -> Result<Option<Refusal>, NoMemory>
-    ensures { IfOk result (λ refusal. refusal ≡ spec.unrun 0 ops.now) }
-{
-    for (at, op) in ops.iter().enumerate() {
-        if !is_run(op) {
-            return Ok(Some(not_yet(alloc, at as u64)?));
-        }
-    }
-    Ok(None)
-}
-
-fn active(alloc: Global, mode: &Mode) -> Result<Option<Refusal>, NoMemory>
-    ensures { IfOk result (λ refusal. refusal ≡ spec.active mode.now) }
-{
-    match mode {
-        Mode::Calm => Ok(None),
-        Mode::Both { name, .. } => Ok(Some(Refusal::AlreadyActive(name.copy(alloc)?))),
-    }
-}
-
-fn name_taken(alloc: Global, s: &State, name: &Name) -> Result<Option<Refusal>, NoMemory>
-    ensures { IfOk result (λ refusal. refusal ≡ spec.taken s.now name.now) }
-{
-    if name.as_slice() == s.version.as_slice() {
-        Ok(Some(Refusal::NameTaken(name.copy(alloc)?)))
-    } else {
-        Ok(None)
-    }
-}
-
-/// Why the migration can't be started now: an operation that isn't run yet (P16), steps of tidying that are left (P3), a
-/// migration that is active (P1), or a name that the current version has (P6).
+/// Why the migration can't be started now: steps of tidying that are left (P3), a migration that is active (P1), or a name
+/// that the current version has (P6).
 pub fn may_not_start(alloc: Global, s: &State, m: &Migration) -> Result<Option<Refusal>, NoMemory>
     ensures { IfOk result (λ refusal. refusal ≡ spec.may_not_start s.now m.now) }
 {
-    if let Some(refusal) = unrun(alloc, m.operations.as_slice())? {
-        return Ok(Some(refusal));
-    }
-    if let Some(refusal) = steps_left(s) {
-        return Ok(Some(refusal));
-    }
-    if let Some(refusal) = active(alloc, &s.mode)? {
-        return Ok(Some(refusal));
-    }
-    name_taken(alloc, s, &m.name)
+    may_start(alloc, &m.name, phase_of(s))
 }
 
 // ---- its plan

@@ -15,4 +15,6 @@ pub enum Task {
     Fill,
     /// The migration is to be completed: step by step, up to the last one or to a refusal.
     Complete,
+    /// The migration is to be rolled back: step by step, up to the last one or to a refusal.
+    Rollback,
 }

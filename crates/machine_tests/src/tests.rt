@@ -71,6 +71,7 @@ fn event_of(alloc: Global, path: &List<Name>, line: &str) -> Result<Option<Event
         Line::Start(text) => Event::Start(asked(alloc, text)?),
         Line::Batch(count) => Event::Fill(count),
         Line::Complete => Event::Complete,
+        Line::Rollback => Event::Rollback,
         Line::Lost => return Ok(None),
         Line::Said(text) => said(alloc, path, text)?,
     };

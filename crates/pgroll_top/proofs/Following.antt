@@ -31,6 +31,7 @@ opens_none who (task.Start asked) = refl
 opens_none who (task.Batch n) = refl
 opens_none who task.Fill = tt
 opens_none who task.Complete = tt
+opens_none who task.Rollback = tt
 
 pub begins_none : (who : Actors) (path : List (List ℕ)) (tasks : List Task) → Begins who path tasks []
 begins_none who path [] = refl

@@ -57,6 +57,7 @@ reply_ends (reply.Start name) = ends_behind (codes "START ") (path_name name ++ 
 reply_ends (reply.Fill table count first last) = ends_behind (codes "FILL ") _ (four_words table (decimal count) (signed_decimal first) (signed_decimal last), refl)
 reply_ends reply.Filled = (codes "FILLED", refl)
 reply_ends (reply.Complete step) = ends_behind (codes "COMPLETE ") (decimal step ++ codes "\n") (decimal step, refl)
+reply_ends (reply.Rollback step) = ends_behind (codes "ROLLBACK ") (decimal step ++ codes "\n") (decimal step, refl)
 reply_ends (reply.Refused refusal) = ends_behind (codes "REFUSED ") (refusal_text refusal ++ codes "\n") (refusal_text refusal, refl)
 
 line_ends : (entry : Entry) → EndsInNewline (line_of entry)
@@ -94,6 +95,7 @@ does_by path (task.Start asked) entries h = once_by _ entries h
 does_by path (task.Batch n) entries h = once_by _ entries h
 does_by path task.Fill entries h = up_to_by _ _ entries h
 does_by path task.Complete entries h = up_to_by _ _ entries h
+does_by path task.Rollback entries h = up_to_by _ _ entries h
 
 follows_by : (path : List (List ℕ)) (tasks : List Task) (entries : List Entry) → follow.Follows numbers path tasks entries → Each ByItsActor entries
 follows_by path [] entries h = subst (Each ByItsActor) (sym h) tt
@@ -138,6 +140,7 @@ module _ (law : OnlyCommandsAreRefused) where
       by_reply (reply.Fill table count first last) is e = cc
       by_reply reply.Filled is e = cc
       by_reply (reply.Complete step) is e = cc
+      by_reply (reply.Rollback step) is e = cc
 
   refused_in : (n : ℕ) (s : State) (h : List Entry) (t : State) → Run n s h t → Each ByItsActor h → has_refusal h ≡ true → HasRefused h
   refused_in n s [] t run by e = cc

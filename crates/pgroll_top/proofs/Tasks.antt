@@ -22,6 +22,7 @@ some_task law reads (Command (order.Start text)) = let asked = some_asked law te
 some_task law reads (Command (order.Batch n)) = (task.Batch n, refl)
 some_task law reads (Command order.Fill) = (task.Fill, tt)
 some_task law reads (Command order.Complete) = (task.Complete, tt)
+some_task law reads (Command order.Rollback) = (task.Rollback, tt)
 
 pub some_tasks : TextsReadOrFail → LinesReadOrFail → (lines : List Line) → (tasks : List Task) × AreTasks lines tasks
 some_tasks law reads [] = ([], tt)

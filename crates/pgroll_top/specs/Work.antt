@@ -106,7 +106,13 @@ IsTask (Command (order.Start text)) (task.Start asked) = AsksFor text asked
 IsTask (Command (order.Batch n)) (task.Batch m) = m ≡ n
 IsTask (Command order.Fill) task.Fill = Unit {0}
 IsTask (Command order.Complete) task.Complete = Unit {0}
-IsTask _ _ = ⊥
+IsTask (Command order.Rollback) task.Rollback = Unit {0}
+IsTask (Text line) _ = ⊥
+IsTask (Command (order.Start text)) _ = ⊥
+IsTask (Command (order.Batch n)) _ = ⊥
+IsTask (Command order.Fill) _ = ⊥
+IsTask (Command order.Complete) _ = ⊥
+IsTask (Command order.Rollback) _ = ⊥
 
 -- These tasks are what these lines ask for, one each, in order.
 abbrev pub AreTasks : List Line → List Task → Type 0

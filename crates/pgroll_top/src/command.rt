@@ -61,8 +61,8 @@ fn perform<S: Source, K: Sink>(alloc: Global, words: &[String], input: &mut S, o
 /// The one form of words is `exec` alone. It reads the input to its end, where it has at most 65,536 bytes, and then
 /// takes its lines in order. Empty lines, lines of spaces alone and lines that begin with `--` are passed by. A line
 /// that begins with a backslash is a command of control: `\start TEXT` starts the migration of this JSON text,
-/// `\batch N` fills at most N rows, `\fill` fills batches of 1,000 rows up to one that fills none, and `\complete` does
-/// the steps of completing that are due. Each other line is one statement of `main`, through the path that the last
+/// `\batch N` fills at most N rows, `\fill` fills batches of 1,000 rows up to one that fills none, and `\complete` and
+/// `\rollback` do the steps of completing, or of rolling back, that are due. Each other line is one statement of `main`, through the path that the last
 /// `SET search_path` before it gave, at first the version `01_users`, whose one table `users` is empty. For each
 /// event a line with its number and its reply is written, and behind the line of a SELECT one for each row.
 ///

@@ -4,7 +4,7 @@ ghost use Rattle.pg_io.specs.Outside.{known};
 ghost use Rattle.machine.specs.declared.events.Asked.{Asked};
 ghost use Rattle.machine.specs.declared.events.Reading.{Reading};
 ghost use Rattle.machine.specs.declared.tasks.Task.TheVariants as Task;
-ghost use Rattle.machine.specs.Follows.{goes_on_completing, goes_on_filling};
+ghost use Rattle.machine.specs.Follows.{goes_on_completing, goes_on_filling, goes_on_rolling_back};
 ghost use Rattle.machine.specs.Standing.{IsState};
 ghost use Rattle.machine.specs.State.{beginning};
 ghost use Rattle.roll_core.specs.Store.{meaning};
@@ -56,6 +56,15 @@ fn goes_on_completing(reply: &Reply) -> bool
 {
     match reply {
         Reply::Complete(step) => *step != 3,
+        _ => false,
+    }
+}
+
+fn goes_on_rolling_back(reply: &Reply) -> bool
+    ensures { result ≡ goes_on_rolling_back reply.now }
+{
+    match reply {
+        Reply::Rollback(step) => *step != 2,
         _ => false,
     }
 }
@@ -189,6 +198,23 @@ impl Lane {
         }
     }
 
+    // Rolls the migration back, step by step, up to the last one or to a refusal.
+    fn roll_back<K: Sink>(&mut self, alloc: Global, out: &mut K) -> Result<(), Stop>
+        requires { self.old.number + 2 < 2 ^ 64 }
+        ensures does { DoesTask self.old self.new (known K.held K.faults out.old out.new) Task.Rollback result }
+        ensures few { self.new.number ≤ self.old.number + 2 }
+        ensures later { K.faults out.old ≤ K.faults out.new }
+    {
+        machine::laws::rolling_back_comes_to_an_end();
+        'steps: loop {
+            let reply = self.core.ddl(&Cmd::Rollback)?;
+            self.tell(alloc, "control", &reply, out)?;
+            if !goes_on_rolling_back(&reply) {
+                return Ok(());
+            }
+        }
+    }
+
     // Does a command.
     fn obey<K: Sink>(&mut self, alloc: Global, order: &Order, out: &mut K) -> Result<(), Stop>
         requires stands { IsState (meaning self.old.core) }
@@ -202,6 +228,7 @@ impl Lane {
             Order::Batch(count) => self.batch(alloc, *count, out),
             Order::Fill => self.fill(alloc, out),
             Order::Complete => self.complete(alloc, out),
+            Order::Rollback => self.roll_back(alloc, out),
         }
     }
 

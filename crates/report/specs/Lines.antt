@@ -17,7 +17,7 @@ use Rattle.mig_lens.specs.declared.faults.Refusal.{Refusal}
 use Rattle.mig_lens.specs.declared.faults.Refusal.TheVariants.{AlreadyActive, NoActive, Unfinished, NotFilled, NotValid, NameTaken, NoSuchTable, NoSuchColumn, Exists, KeyColumn, ColumnTwice, UpNeeded, DownNeeded, BadExpr, BadType, BadJson, NotInit, AlreadyInit, BackfillRefused, Limit, BadScript}
 use Rattle.machine.specs.declared.events.Entry.{Entry}
 use Rattle.machine.specs.declared.events.Reply.{Reply}
-use Rattle.machine.specs.declared.events.Reply.TheVariants.{Delete, Insert, Select, Update, Set, Error, Start, Fill, Filled, Complete, Refused}
+use Rattle.machine.specs.declared.events.Reply.TheVariants.{Delete, Insert, Select, Update, Set, Error, Start, Fill, Filled, Complete, Rollback, Refused}
 use Rattle.machine.specs.State.{path_name}
 
 -- A code, without the letter that its name begins with.
@@ -109,6 +109,7 @@ reply_text (Start name) = codes "START " ++ (path_name name ++ codes "\n")
 reply_text (Fill table count first last) = codes "FILL " ++ (four_words table (decimal count) (signed_decimal first) (signed_decimal last) ++ codes "\n")
 reply_text Filled = codes "FILLED\n"
 reply_text (Complete step) = codes "COMPLETE " ++ (decimal step ++ codes "\n")
+reply_text (Rollback step) = codes "ROLLBACK " ++ (decimal step ++ codes "\n")
 reply_text (Refused refusal) = codes "REFUSED " ++ (refusal_text refusal ++ codes "\n")
 
 -- The line of a reply with its number and the name of its actor, and the lines of its rows.

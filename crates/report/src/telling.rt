@@ -148,7 +148,7 @@ fn push_select(out: &mut Vec<u8>, alloc: Global, rows: &[List<Value>]) -> Result
     push_rows(out, alloc, rows)
 }
 
-// A word, and a number of rows.
+// A word, and a number of rows, or of a step.
 fn push_tag(out: &mut Vec<u8>, alloc: Global, tag: &str, count: u32) -> Result<(), NoMemory>
     ensures { OnOk result (out.new.items ≡ out.old.items ++ (tag.now ++ (decimal count ++ codes "\n"))) }
 {
@@ -200,14 +200,6 @@ fn push_fill(
     Ok(out.extend_from_slice(b"\n")?)
 }
 
-fn push_complete(out: &mut Vec<u8>, alloc: Global, step: u8) -> Result<(), NoMemory>
-    ensures { OnOk result (out.new.items ≡ out.old.items ++ spec.reply_text (Reply.Complete step)) }
-{
-    out.extend_from_slice(b"COMPLETE ")?;
-    push_count(out, alloc, u64::from(step))?;
-    Ok(out.extend_from_slice(b"\n")?)
-}
-
 fn push_refused(out: &mut Vec<u8>, alloc: Global, refusal: &Refusal) -> Result<(), NoMemory>
     ensures { OnOk result (out.new.items ≡ out.old.items ++ spec.reply_text (Reply.Refused refusal.now)) }
 {
@@ -234,7 +226,8 @@ fn push_reply(out: &mut Vec<u8>, alloc: Global, reply: &Reply) -> Result<(), NoM
             last,
         } => push_fill(out, alloc, table, *count, *first, *last),
         Reply::Filled => Ok(out.extend_from_slice(b"FILLED\n")?),
-        Reply::Complete(step) => push_complete(out, alloc, *step),
+        Reply::Complete(step) => push_tag(out, alloc, "COMPLETE ", u32::from(*step)),
+        Reply::Rollback(step) => push_tag(out, alloc, "ROLLBACK ", u32::from(*step)),
         Reply::Refused(refusal) => push_refused(out, alloc, refusal),
     }
 }

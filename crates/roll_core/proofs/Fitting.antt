@@ -2,14 +2,14 @@
 use Rattle.roll_core.proofs.Words.{◌≡◌, ◌∙◌, ℕ, ℤ, List, [], ◌∷◌, Bool, true, false, Option, Some, None, is_some, cond, int_cmp, map, ap, refl, sym, subst, option_map, T}
 use Rattle.roll_core.proofs.Words.{int_eq_equiv, is_sorted, below_all, Each, eq_by_cmp, is_eq, is_lt, some_same, Value, Table, Halves, Kept, Beside, number_of, shape_of, Rows}
 use Rattle.roll_core.proofs.Words.{State, HalvesAgree, PairStands, SiteRow, TableStands, may_miss_beside, new_table_by, table_by, HalfStands, NewStands, Found, Shared, beside_on, lens_between}
-use Rattle.roll_core.proofs.Words.{shared, site_of, table_on, New, Old, Side, FilledBefore, Pair, Form, Own, Paired, Left, Trimmed, FormSuits, LeftBy, IsStoredRow, StoredRow, kept}
-use Rattle.roll_core.proofs.Words.{lost_columns_by, other, pair_over, row_fits}
+use Rattle.roll_core.proofs.Words.{shared, site_of, table_on, New, Old, Side, FilledBefore, Pair, Form, Own, Paired, Left, Trimmed, FormSuits, IsStoredRow, StoredRow, kept}
+use Rattle.roll_core.proofs.Words.{Calm, ReturnedBefore, Returned, Shape, lost_columns_by, other, pair_over, row_fits}
 use Rattle.roll_core.proofs.Words.finite
 use Rattle.std.specs.FinMap.{find}
 use Rattle.roll_core.proofs.Made.{HasNew}
 use Rattle.roll_core.proofs.Runs.{calm_none, no_new, shared_of}
 use Rattle.roll_core.proofs.Stepped.{is_less, split}
-use Rattle.roll_core.proofs.Storing.{AloneFits, FormStands, Storable, Together, lost_over}
+use Rattle.roll_core.proofs.Storing.{AloneFits, FormStands, Storable, Together, lost_over, returned_over}
 
 -- ---- what is stored under a key
 
@@ -33,6 +33,7 @@ WeighsOver (Own side) before lost = lost ≡ 0
 WeighsOver (Paired pair) before lost = lost ≡ 0
 WeighsOver (Left pair) before lost = FilledBefore pair before × (lost ≡ lost_over pair before)
 WeighsOver (Trimmed pair) before lost = lost ≡ 0
+WeighsOver (Returned pair) before lost = ReturnedBefore pair before × (lost ≡ returned_over pair before)
 
 -- A row of this key may have this lost weight, over what is stored.
 abbrev pub Weighs : Form → Rows → ℤ → ℕ → Type 0
@@ -43,12 +44,14 @@ new_weighs (Own side) lost e = e
 new_weighs (Paired pair) lost e = e
 new_weighs (Left pair) lost e = (tt, e)
 new_weighs (Trimmed pair) lost e = e
+new_weighs (Returned pair) lost e = (tt, e)
 
 row_weighs : (form : Form) (before : Option (List Value)) (row : StoredRow) → before ≡ Some row.1 → IsStoredRow form row.1 → WeighsOver form before (kept form row).lost
 row_weighs (Own side) before row e s = refl
 row_weighs (Paired pair) before row e s = refl
 row_weighs (Left pair) before row e s = (subst (FilledBefore pair) (sym e) s, ap (lost_over pair) (sym e))
 row_weighs (Trimmed pair) before row e s = refl
+row_weighs (Returned pair) before row e s = (subst (ReturnedBefore pair) (sym e) s, ap (returned_over pair) (sym e))
 
 rows_weigh : (form : Form) (all : Rows) (rows : List StoredRow) → Each (λ row. find int_cmp row.0 (finite.entries all) ≡ Some row.1) rows → Each (λ row. IsStoredRow form row.1) rows → Each (λ row. Weighs form all row.key row.lost) (map (kept form) rows)
 rows_weigh form all [] f s = tt
@@ -155,13 +158,16 @@ form_stands s number (Own side) f = tt
 form_stands s number (Paired pair) f = f.is_pair
 form_stands s number (Left pair) f = f.is_pair
 form_stands s number (Trimmed pair) f = f.is_pair
+form_stands s number (Returned pair) f = f.is_pair
 
-left_fits : (s : State) (found : Found) (pair : Pair) → LeftBy s (number_of found.table) pair → TableStands s found → (row : Kept) → SiteRow (λ lost. Unit {0}) (site_of s found) row → AloneFits Old pair.new row
-left_fits s found pair f stands row r =
+-- One version stands alone, and its table of the number has this shape.
+calm_fits : (s : State) (found : Found) (shape : Shape) → s.mode ≡ Calm → ((table : Table) → table_on s Old (number_of found.table) ≡ Some table → shape ≡ shape_of table) → TableStands s found
+    → (row : Kept) → SiteRow (λ lost. Unit {0}) (site_of s found) row → AloneFits Old shape row
+calm_fits s found shape calm is stands row r =
     let number = number_of found.table in
-    let none = calm_none s number f.calm in
+    let none = calm_none s number calm in
     let old = subst (λ side. table_on s side number ≡ Some found.table) (alone_side s number Old found.side found.table none stands.on_side) stands.on_side in
-    subst (λ shape. AloneFits Old shape row) (sym (f.shape found.table old)) (alone_fits s found Old none stands row r)
+    subst (λ shape. AloneFits Old shape row) (sym (is found.table old)) (alone_fits s found Old none stands row r)
 
 pub storable : (s : State) (found : Found) → TableStands s found → ((both : Shared) → shared s (number_of found.table) ≡ Some both → PairStands s (number_of found.table) both) → (form : Form) (before : Option (List Value)) (row : Kept) → FormSuits s (number_of found.table) form
     → SiteRow (λ lost. Unit {0}) (site_of s found) row → HasNew (site_of s found).there row.halves → ((both : Shared) → shared s (number_of found.table) ≡ Some both → HalvesAgree both.lens row.halves) → WeighsOver form before row.lost → Storable form before row
@@ -172,5 +178,6 @@ storable s found stands pairs (Paired pair) before row f r h a w =
     let have = both_has s found both f.shares (pairs both f.shares) stands row r in
     let some = new_there (site_of s found).there (beside_on found.side both) row.halves there h in
     (subst (λ (p : Pair). Together p row) (sym f.over) (together both row have some (a both f.shares)), w)
-storable s found stands pairs (Left pair) before row f r h a w = (left_fits s found pair f stands row r, w.0, w.1)
-storable s found stands pairs (Trimmed pair) before row f r h a w = (left_fits s found pair f stands row r, w)
+storable s found stands pairs (Left pair) before row f r h a w = (calm_fits s found pair.new f.calm f.shape stands row r, w.0, w.1)
+storable s found stands pairs (Trimmed pair) before row f r h a w = (calm_fits s found pair.new f.calm f.shape stands row r, w)
+storable s found stands pairs (Returned pair) before row f r h a w = (calm_fits s found pair.old f.calm f.shape stands row r, w.0, w.1)

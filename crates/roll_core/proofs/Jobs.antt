@@ -3,7 +3,7 @@ use Rattle.roll_core.proofs.Words.{slice_get_within, arith, ◌≡◌, ◌∙◌
 use Rattle.roll_core.proofs.Words.{option_map, slice_get, slice_index_or, Each, nat_tests, get_or-take, some_same, Value, Null, Cell, Carry, Make, Still, is_carried_from, Table, Change, Put, Remove}
 use Rattle.roll_core.proofs.Words.{Job, Kept, changes, number_of, shape_of, Calm, State, RowsOnSites, RowsStandBy, BesideStands, ChangeAgrees, ChangeStands, HalvesAgree, JobStands, OfPut, PairStands}
 use Rattle.roll_core.proofs.Words.{SiteRow, SiteStands, TableStands, IsState, RowsStand, Found, Shared, beside_on, rows_of, shared, site_of, table_on, New, Old, Side, Rows, Pair, IsPair, PairsAreLong}
-use Rattle.roll_core.proofs.Words.{is_marked, new_half, new_view, old_view, places, Form, Own, Paired, Left, Trimmed, FormSuits, StoredRow, kept, Below, StoredTable, OwnTable, with_rows}
+use Rattle.roll_core.proofs.Words.{is_marked, new_half, new_view, old_view, places, Form, Own, Paired, Left, Returned, Trimmed, FormSuits, StoredRow, kept, Below, StoredTable, OwnTable, with_rows}
 use Rattle.roll_core.proofs.Words.{after_changes, meant, slice_set, changed, SameForms, RowsStored, Runs, seen, rows_meant, table_meant, is_some, every, has_key, key_cause, new_keys_cause, new_row}
 use Rattle.roll_core.proofs.Words.{rows_put, Site, lost_columns_of, IsStatement, IsStoredRow, lost_columns_by}
 use Rattle.roll_core.proofs.Words.finite
@@ -63,6 +63,7 @@ stored_agree long s number form suits (row ∷ rows) both is = (by_form form sui
     by_form (Own side) f = absurd (unshared (alone_shared s number side f))
     by_form (Left pair) f = absurd (no_pair f.calm)
     by_form (Trimmed pair) f = absurd (no_pair f.calm)
+    by_form (Returned pair) f = absurd (no_pair f.calm)
     by_form (Paired pair) f =
         let same : f.both ≡ both = some_same f.both both (sym f.shares ∙ is) in
         let lens = ap (λ (p : Pair). p.lens) f.over ∙ ap (λ (b : Shared). b.lens) same in

@@ -1,8 +1,8 @@
 -- The first rows that are still to be filled, and the first table that has any.
 use Rattle.roll_core.proofs.Words.{Below, int_eq_equiv, arith, ◌≡◌, ◌∙◌, ℕ, zero, suc, ℤ, List, [], ◌∷◌, Bool, true, false, ◌||◌, if◌then◌else◌, length, map, nat_lt, take, filter, ap, refl, sym}
 use Rattle.roll_core.proofs.Words.{subst, int_cmp, int_eq, Less, Each, list_any, is_eq, nat_tests, int_cmp_total, Kept, rows_at, is_missing, Ascends, keys_missing, slice_get-get_or, ◌<◌, Option, Some}
-use Rattle.roll_core.proofs.Words.{None, find, drop, option_map, option_and_then, slice_get, slice_index_or, option_map_or, option_or, length-map, either_none, some_same, Calm, State, bad_batch}
-use Rattle.roll_core.proofs.Words.{first_of, has_missing, inactive, may_not_fill, steps_left, unfilled_tables, Shared, rows_of, Form, Own, Paired, Left, Trimmed, FirstUnfilled}
+use Rattle.roll_core.proofs.Words.{None, find, drop, option_map, option_and_then, slice_get, slice_index_or, option_map_or, length-map, either_none, some_same, Calm, State, bad_batch}
+use Rattle.roll_core.proofs.Words.{active_name, first_of, has_missing, inactive, may_fill, may_not_fill, phase_of, unfilled_tables, unfinished, Shared, rows_of, Form, Own, Paired, Left, Returned, Trimmed, FirstUnfilled}
 use Rattle.roll_core.proofs.Words.{◌&&◌, is_paired, is_unfilled, number_at, OwnTable, FormSuits, Runs, meant, seen, StoredTable, rows_meant, table_meant}
 use Rattle.roll_core.proofs.Fitting.{alone_shared}
 use Rattle.roll_core.proofs.Tables.{all_at, each_place, got_mapped, rows_of-read, suits_meant}
@@ -78,9 +78,9 @@ each_taken P (suc n) (row ∷ rows) h = (h.0, each_taken P n rows h.1)
 -- A migration is active, where a batch may be filled.
 pub active : (s : State) (n : ℕ) → may_not_fill s n ≡ None → ¬ (s.mode ≡ Calm)
 active s n e calm =
-    let first = either_none (bad_batch n) (option_or (steps_left s) (inactive s.mode)) e in
-    let second = either_none (steps_left s) (inactive s.mode) first.1 in
-    let is : inactive Calm ≡ None = ap inactive (sym calm) ∙ second.1 in
+    let first = either_none (bad_batch n) (may_fill (phase_of s)) e in
+    let second = either_none (unfinished s.kind) (inactive (active_name s.mode)) first.1 in
+    let is : inactive (active_name Calm) ≡ None = ap (λ mode. inactive (active_name mode)) (sym calm) ∙ second.1 in
     cc
 
 -- Then only a table that both versions have has rows to be filled.
@@ -91,6 +91,7 @@ tells_by s number (Paired pair) rows f e live =
     ∙ ap (λ rows. nat_lt 0 (length (keys_missing rows))) e ∙ any_left rows
 tells_by s number (Left pair) rows f e live = absurd (live f.calm)
 tells_by s number (Trimmed pair) rows f e live = absurd (live f.calm)
+tells_by s number (Returned pair) rows f e live = absurd (live f.calm)
 
 abbrev Tells : State → StoredTable → Type 0
 Tells s table = has_missing s table.number ≡ is_unfilled table

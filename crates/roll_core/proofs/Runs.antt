@@ -3,6 +3,8 @@ use Rattle.roll_core.proofs.Words.{newer_schema, Both, State, form_in, over_pair
 use Rattle.roll_core.proofs.Words.{option_and_then, some_same, Schema, Shape, Lens, Fate, IsSchema, IsWellFormed, Joins, fits, Table, table_numbered, shape_of, Shared, lens_among, IsPair, pair_over}
 use Rattle.roll_core.proofs.Words.{false, ◌==◌, if◌then◌else◌, Mode, Calm, IsState, Pair, Form, Own, Left, Trimmed, FormSuits, LeftBy, Runs, Below, New, Old, is_some, meant, other, side_alone, table_on}
 use Rattle.roll_core.proofs.Words.{FormerStands, HasFormer, IsStored, IsStoredTable, Stored, StoredTable, both_again, calm_form, former_pair}
+use Rattle.roll_core.proofs.Words.{Kind, Returned, ReturnedBy, both_before, newer_of, older_of}
+use Rattle.roll_core.proofs.Words.kind
 use Rattle.roll_core.proofs.Tables.{each_of}
 
 -- What both have, where they have it and a lens.
@@ -91,32 +93,61 @@ both_suits law frame tables number stands =
 pub calm_none : (s : State) (number : ℕ) → s.mode ≡ Calm → table_on s New number ≡ None
 calm_none s number m = ap (λ mode. option_and_then (λ schema. table_numbered schema number) (newer_schema mode)) m
 
-left_by : (frame : State) (former : Former) → frame.mode ≡ Calm → IsSchema frame.schema → FormerStands frame former → (number : ℕ) (pair : Shared)
+-- What both had of a table before the old version went is a pair, and the standing version's table is its new one.
+left_by : (frame : State) (former : Former) → frame.mode ≡ Calm → frame.kind ≡ kind.Complete → IsSchema frame.schema → FormerStands frame former → (number : ℕ) (pair : Shared)
     → shared (both_again former frame) number ≡ Some pair → LeftBy frame number (pair_over pair)
-left_by frame former m is stands number pair h =
-    let parts = shared_parts (lens_among former.fates number) (table_numbered frame.schema number) (table_numbered former.schema number) pair h in
+left_by frame former m k is stands number pair h =
+    let both : shared (both_before kind.Complete former frame) number ≡ Some pair = sym (ap (λ (by : Kind). shared (both_before by former frame) number) k) ∙ h in
+    let parts = shared_parts (lens_among former.fates number) (table_numbered frame.schema number) (table_numbered former.schema number) pair both in
+    let joined = subst (λ (by : Kind). Joins pair.lens number (older_of by former.schema frame.schema) (newer_of by former.schema frame.schema)) k (stands.joined number pair.lens parts.2) in
     record {
       calm = m;
-      is_pair = joined_pair former.schema frame.schema former.fates number pair stands.schema is h (stands.joined number pair.lens parts.2);
+      is_pair = joined_pair former.schema frame.schema former.fates number pair stands.schema is both joined;
       shape = λ table e. ap shape_of (some_same pair.new table (sym parts.1 ∙ e));
+    }
+
+-- The same before the new version went, and the standing version's table is its old one.
+returned_by : (frame : State) (former : Former) → frame.mode ≡ Calm → frame.kind ≡ kind.Rollback → IsSchema frame.schema → FormerStands frame former → (number : ℕ) (pair : Shared)
+    → shared (both_again former frame) number ≡ Some pair → ReturnedBy frame number (pair_over pair)
+returned_by frame former m k is stands number pair h =
+    let both : shared (both_before kind.Rollback former frame) number ≡ Some pair = sym (ap (λ (by : Kind). shared (both_before by former frame) number) k) ∙ h in
+    let parts = shared_parts (lens_among former.fates number) (table_numbered former.schema number) (table_numbered frame.schema number) pair both in
+    let joined = subst (λ (by : Kind). Joins pair.lens number (older_of by former.schema frame.schema) (newer_of by former.schema frame.schema)) k (stands.joined number pair.lens parts.2) in
+    record {
+      calm = m;
+      is_pair = joined_pair frame.schema former.schema former.fates number pair is stands.schema both joined;
+      shape = λ table e. ap shape_of (some_same pair.old table (sym parts.0 ∙ e));
     }
 
 over_suits : (form : Pair → Form) (s : State) (number : ℕ) (o : Option Shared) → s.mode ≡ Calm → ((pair : Shared) → o ≡ Some pair → FormSuits s number (form (pair_over pair))) → FormSuits s number (over_pair form Old o)
 over_suits form s number None m h = calm_none s number m
 over_suits form s number (Some pair) m h = h pair refl
 
-pub former_by : (frame : State) (former : Option Former) → frame.mode ≡ Calm → IsSchema frame.schema → HasFormer frame former → (number : ℕ) (pair : Shared) → former_pair former frame number ≡ Some pair → LeftBy frame number (pair_over pair)
-former_by frame None m is h number pair e = cc
-former_by frame (Some former) m is h number pair e = left_by frame former m is h.1 number pair e
+pub former_left : (frame : State) (former : Option Former) → frame.mode ≡ Calm → frame.kind ≡ kind.Complete → IsSchema frame.schema → HasFormer frame former → (number : ℕ) (pair : Shared)
+    → former_pair former frame number ≡ Some pair → LeftBy frame number (pair_over pair)
+former_left frame None m k is h number pair e = cc
+former_left frame (Some former) m k is h number pair e = left_by frame former m k is h.1 number pair e
+
+former_returned : (frame : State) (former : Option Former) → frame.mode ≡ Calm → frame.kind ≡ kind.Rollback → IsSchema frame.schema → HasFormer frame former → (number : ℕ) (pair : Shared)
+    → former_pair former frame number ≡ Some pair → ReturnedBy frame number (pair_over pair)
+former_returned frame None m k is h number pair e = cc
+former_returned frame (Some former) m k is h number pair e = returned_by frame former m k is h.1 number pair e
 
 calm_suits : (frame : State) (former : Option Former) → frame.mode ≡ Calm → IsSchema frame.schema → HasFormer frame former → (number : ℕ) → FormSuits frame number (calm_form former frame number)
 calm_suits frame former m is h number =
     let over = former_pair former frame number in
-    let left = λ (pair : Shared) (e : over ≡ Some pair). former_by frame former m is h number pair e in
-    elim (frame.left == 2) as (λ two. FormSuits frame number (if two then over_pair Left Old over else if frame.left == 1 then over_pair Trimmed Old over else Own Old)) [
-      | true ↦ over_suits Left frame number over m left
-      | false ↦ elim (frame.left == 1) as (λ one. FormSuits frame number (if one then over_pair Trimmed Old over else Own Old)) [ true ↦ over_suits Trimmed frame number over m left | false ↦ calm_none frame number m ]
-    ]
+    elim frame.kind as (λ by. frame.kind ≡ by → FormSuits frame number (elim by [
+      | kind.Nothing ↦ Own Old
+      | kind.Complete ↦ over_pair (if frame.left == 2 then Left else Trimmed) Old (former_pair former frame number)
+      | kind.Rollback ↦ over_pair Returned Old (former_pair former frame number)
+    ])) [
+      | kind.Nothing ↦ λ k. calm_none frame number m
+      | kind.Complete ↦ λ k. elim (frame.left == 2) as (λ two. FormSuits frame number (over_pair (if two then Left else Trimmed) Old over)) [
+        | true ↦ over_suits Left frame number over m (former_left frame former m k is h number)
+        | false ↦ over_suits Trimmed frame number over m (former_left frame former m k is h number)
+      ]
+      | kind.Rollback ↦ λ k. over_suits Returned frame number over m (former_returned frame former m k is h number)
+    ] refl
 
 -- ---- each table
 

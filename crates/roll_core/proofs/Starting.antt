@@ -2,12 +2,13 @@
 use Rattle.roll_core.proofs.Words.{begun_parts, ◌≡◌, ◌∙◌, ◌<◌, ◌++◌, ◌||◌, ℕ, List, [], ◌∷◌, Bool, true, false, Option, Some, None, Result, Ok, Err, inl, inr, map, ap, refl, sym, subst, if◌then◌else◌, AllByRecursion}
 use Rattle.roll_core.proofs.Words.{arith, Each, is_some, list_any, map-append, map-id, map-map, nat_eq, nat_tests, option_map, option_map_or, option_or, row_fits, slice_get, and_then_ok, either_none, and_then, Value}
 use Rattle.roll_core.proofs.Words.{Fate, Lens, Refusal, Migration, Plan, Table, has_mark, table_numbered, Kept, Stop, Because, NoMemory, Answers, guarded, without, shape_of, begun_row, Calm, Both, State}
-use Rattle.roll_core.proofs.Words.{CommandOutcome, Done, Started, active, created_in, created_table, created_tables, machine_begun, may_not_start, numbers_of, planned, start_planned, start_read, started}
-use Rattle.roll_core.proofs.Words.{steps_left, taken, too_heavy, unrun, HalfStands, IsState, NewerStands, NumbersAscend, RowsStand, StepsStand, is_known, may_lose, Shared, lens_among, table_on, New, Old, Pair}
+use Rattle.roll_core.proofs.Words.{CommandOutcome, Done, Started, active_name, already, created_in, created_table, created_tables, machine_begun, may_not_start, numbers_of, planned, start_planned, start_read, started}
+use Rattle.roll_core.proofs.Words.{taken, too_heavy, unfinished, HalfStands, IsState, NewerStands, NumbersAscend, RowsStand, StepsStand, is_known, may_lose, Shared, lens_among, table_on, New, Old, Pair}
 use Rattle.roll_core.proofs.Words.{BeginningLeaves, BegunRowsHold, IsPair, IsBegunRow, IsPairedRow, new_half, new_view, Form, Own, Paired, Former, meaning, meant, AreKept, AreRun, Goes, begun_form}
 use Rattle.roll_core.proofs.Words.{begun_frame, begun_table, shared_by, startable, stepped_row, HasFormer, IsStoredRow, IsStoredTable, StoredRow, Stored, StoredTable, form_in, kept, lost_columns_by}
 use Rattle.roll_core.proofs.Words.{over_pair, pair_over, table_meant, Below}
 use Rattle.roll_core.proofs.Words.{◌≤◌, ◌+◌, length, ok_same}
+use Rattle.roll_core.proofs.Words.kind
 use Rattle.roll_core.proofs.Words.reply_of
 use Rattle.machine.specs.Migrate.{unplanned}
 use Rattle.mig_lens.specs.declared.faults.PlanFault.{PlanFault}
@@ -97,11 +98,11 @@ record IsOwn (frame : State) (all : List StoredTable) (table : StoredTable) : Ty
   there : is_some (table_on frame Old table.number) ≡ true
   rows : RowsStand (meant frame all) table.number (map (kept (Own Old)) table.rows)
 
-own_at : Below → (frame : State) (former : Option Former) (all : List StoredTable) → frame.mode ≡ Calm → frame.left ≡ 0 → IsState (meant frame all)
+own_at : Below → (frame : State) (former : Option Former) (all : List StoredTable) → frame.mode ≡ Calm → frame.kind ≡ kind.Nothing → IsState (meant frame all)
     → (at : ℕ) (table : StoredTable) → slice_get all at ≡ Some table → IsStoredTable (record { frame = frame; former = former; tables = all }) table → IsOwn frame all table
-own_at law frame former all m left stands at table e t =
+own_at law frame former all m none stands at table e t =
     let s = meant frame all in
-    let form : table.form ≡ Own Old = t.form ∙ no_form former frame table.number m left in
+    let form : table.form ≡ Own Old = t.form ∙ no_form former frame table.number m none in
     let known = all_at (λ (table : ℕ × List Kept). is_known s table.0 ≡ true) s.tables at (table_meant table) (law.known s stands) (got_mapped table_meant all at table e) in
     let read = rows_of-read law frame all at table.number table stands (record { here = e; numbered = refl }) in
     record {
@@ -179,9 +180,9 @@ created_stored frame name former plan new l numbers h = each_mapped created_tabl
 
 is_calm : (s : State) (m : Migration) → may_not_start s m ≡ None → s.mode ≡ Calm
 is_calm s m h =
-    let ops = either_none (unrun 0 m.operations) (option_or (steps_left s) (option_or (active s.mode) (taken s m.name))) h in
-    let steps = either_none (steps_left s) (option_or (active s.mode) (taken s m.name)) ops.1 in
-    elim s.mode as (λ mode. active mode ≡ None → mode ≡ Calm) [ Calm ↦ λ h. refl | Both name schema fates ↦ λ h. cc ] (either_none (active s.mode) (taken s m.name) steps.1).0
+    let steps = either_none (unfinished s.kind) (option_or (already (active_name s.mode)) (taken s.version m.name)) h in
+    elim s.mode as (λ mode. already (active_name mode) ≡ None → mode ≡ Calm) [ Calm ↦ λ h. refl | Both name schema fates ↦ λ h. cc ]
+    (either_none (already (active_name s.mode)) (taken s.version m.name) steps.1).0
 
 -- The numbers of the created tables fit 32 bits.
 planned_by : (found : Result Plan PlanFault) (plan : Plan) → ◌≡◌ {A = Result Plan Refusal} (elim found [ Ok plan ↦ Ok plan | Err fault ↦ Err (unplanned fault) ]) (Ok plan) → found ≡ Ok plan
@@ -223,7 +224,7 @@ is_started law frame former tables m plan stands k may is =
     let none = stands.lost (ap (λ by. may_lose by s.left) newer.no_steps) in
     let b = begins law frame tables m.name plan none.columns begun in
     let had = elim former as (λ former. HasFormer frame former → HasFormer (begun_frame frame m.name plan) former) [ None ↦ λ h. h | Some former ↦ λ h. let more = h.0 in absurd (omega (arith, more, left)) ] k.former in
-    let own = each_place (IsOwn frame tables) tables (λ at table e. own_at law frame former tables (is_calm s m may) left stands at table e (all_at (IsStoredTable (record { frame = frame; former = former; tables = tables })) tables at table k.tables e)) in
+    let own = each_place (IsOwn frame tables) tables (λ at table e. own_at law frame former tables (is_calm s m may) newer.no_steps stands at table e (all_at (IsStoredTable (record { frame = frame; former = former; tables = tables })) tables at table k.tables e)) in
     let new = map (begun_table frame plan) tables ++ map created_table (created_in plan.fates) in
     record {
       means = ap (λ (ts : List (ℕ × List Kept)). record (begun_frame frame m.name plan) { tables = ts }) (started_means law frame tables m.name plan b own);

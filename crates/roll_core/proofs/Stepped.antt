@@ -5,9 +5,10 @@ use Rattle.roll_core.proofs.Words.{Value, Rows, Form, IsStoredRow, kept, stepped
 use Rattle.roll_core.proofs.Words.{State, Complete, complete, stepped, table_without_loss, tidied, without_loss, ModeStands, StepsStand, Shared, Pair, IsPair, Own, Left, Trimmed, Former, meant}
 use Rattle.roll_core.proofs.Words.{AreKept, Goes, tidied_form, tidied_number, tidied_parts, tidied_table, HasFormer, IsStored, IsStoredTable, Stored, StoredTable, form_in, former_pair}
 use Rattle.roll_core.proofs.Words.{lost_columns_by, option_map, over_pair, pair_over, rows_meant, table_meant, without_tables, Below, Old}
+use Rattle.roll_core.proofs.Words.{Kind, Mode, Paired, Returned, Rollback, both_before, calm_form, side_alone, rollback, shared, tidied_back, tidied_back_frame, tidied_back_parts}
 use Rattle.roll_core.proofs.Words.finite
 use Rattle.roll_core.proofs.Words.kind
-use Rattle.roll_core.proofs.Runs.{former_by}
+use Rattle.roll_core.proofs.Runs.{former_left}
 use Rattle.roll_core.proofs.Tables.{each_mapped, each_of, none_lost}
 
 pub split : (a b : Bool) → T (a && b) → T a × T b
@@ -129,19 +130,47 @@ next_stored wanted form new tables f l h = each_mapped tidied_table _
 
 -- ---- the steps
 
-two_form : (former : Option Former) (frame : State) (number : ℕ) → frame.mode ≡ Calm → frame.left ≡ 2 → form_in former frame number ≡ over_pair Left Old (former_pair former frame number)
-two_form former frame number m l = rw (m, l) refl
+-- The form of a table while one version stands, by the steps that are left.
+abbrev form_by : Option Former → State → ℕ → Kind → Form
+form_by former frame number by = elim by [
+  | kind.Nothing ↦ Own Old
+  | kind.Complete ↦ over_pair (if frame.left == 2 then Left else Trimmed) Old (former_pair former frame number)
+  | kind.Rollback ↦ over_pair Returned Old (former_pair former frame number)
+]
 
-one_form : (former : Option Former) (frame : State) (number : ℕ) → frame.mode ≡ Calm → frame.left ≡ 1 → form_in former frame number ≡ over_pair Trimmed Old (former_pair former frame number)
-one_form former frame number m l = rw (m, l) refl
+form_of_kind : (former : Option Former) (frame : State) (number : ℕ) (by : Kind) → frame.mode ≡ Calm → frame.kind ≡ by → form_in former frame number ≡ form_by former frame number by
+form_of_kind former frame number by m k =
+    ap (λ (mode : Mode). elim mode [ Calm ↦ calm_form former frame number | Both name schema fates ↦ over_pair Paired (side_alone frame number) (shared frame number) ]) m
+    ∙ ap (form_by former frame number) k
 
-pub no_form : (former : Option Former) (frame : State) (number : ℕ) → frame.mode ≡ Calm → frame.left ≡ 0 → form_in former frame number ≡ Own Old
-no_form former frame number m l = rw (m, l) refl
+two_form : (former : Option Former) (frame : State) (number : ℕ) → frame.mode ≡ Calm → frame.kind ≡ kind.Complete → frame.left ≡ 2
+    → form_in former frame number ≡ over_pair Left Old (former_pair former frame number)
+two_form former frame number m k l =
+    form_of_kind former frame number kind.Complete m k ∙ ap (λ (n : ℕ). over_pair (if n == 2 then Left else Trimmed) Old (former_pair former frame number)) l
+
+one_form : (former : Option Former) (frame : State) (number : ℕ) → frame.mode ≡ Calm → frame.kind ≡ kind.Complete → frame.left ≡ 1
+    → form_in former frame number ≡ over_pair Trimmed Old (former_pair former frame number)
+one_form former frame number m k l =
+    form_of_kind former frame number kind.Complete m k ∙ ap (λ (n : ℕ). over_pair (if n == 2 then Left else Trimmed) Old (former_pair former frame number)) l
+
+back_form : (former : Option Former) (frame : State) (number : ℕ) → frame.mode ≡ Calm → frame.kind ≡ kind.Rollback
+    → form_in former frame number ≡ over_pair Returned Old (former_pair former frame number)
+back_form former frame number m k = form_of_kind former frame number kind.Rollback m k
+
+pub no_form : (former : Option Former) (frame : State) (number : ℕ) → frame.mode ≡ Calm → frame.kind ≡ kind.Nothing → form_in former frame number ≡ Own Old
+no_form former frame number m k = form_of_kind former frame number kind.Nothing m k
 
 -- The versions' own tables are as they were.
-without_pair : (former : Option Former) (frame : State) (number : ℕ) → former_pair (option_map without_tables former) frame number ≡ former_pair former frame number
+same_pair : (by : Kind) (former : Former) (frame : State) (number : ℕ)
+    → shared (both_before by (without_tables former) (record frame { left = 1; lost_columns = [] })) number ≡ shared (both_before by former frame) number
+same_pair kind.Nothing former frame number = refl
+same_pair kind.Complete former frame number = refl
+same_pair kind.Rollback former frame number = refl
+
+without_pair : (former : Option Former) (frame : State) (number : ℕ)
+    → former_pair (option_map without_tables former) (record frame { left = 1; lost_columns = [] }) number ≡ former_pair former frame number
 without_pair None frame number = refl
-without_pair (Some former) frame number = refl
+without_pair (Some former) frame number = same_pair frame.kind former frame number
 
 -- What a step leaves.
 pub record IsTidied (two : Bool) (frame : State) (former : Option Former) (tables : List StoredTable) : Type 0 where
@@ -151,22 +180,22 @@ pub record IsTidied (two : Bool) (frame : State) (former : Option Former) (table
   pub kept : AreKept (record { frame = if two then record frame { left = 1; lost_columns = [] } else record frame { left = 0; kind = kind.Nothing }; former = if two then option_map without_tables former else None; tables = map tidied_table tables })
 
 second : Below → (frame : State) (former : Option Former) (tables : List StoredTable) → IsStored (record { frame = frame; former = former; tables = tables })
-    → frame.mode ≡ Calm → frame.left ≡ 2 → IsTidied true frame former tables
-second law frame former tables stored m l =
+    → frame.mode ≡ Calm → frame.kind ≡ kind.Complete → frame.left ≡ 2 → IsTidied true frame former tables
+second law frame former tables stored m k l =
     let new = record frame { left = 1; lost_columns = [] } in
     let form = λ (number : ℕ). over_pair Trimmed Old (former_pair former frame number) in
     let is_pair = λ (number : ℕ) (both : Shared) (e : former_pair former frame number ≡ Some both).
-    (former_by frame former m stored.stands.version.schema_stands stored.former number both e).is_pair in
+    (former_left frame former m k stored.stands.version.schema_stands stored.former number both e).is_pair in
     let each : Each (λ table. IsNext without_loss (form table.number) table) tables = each_of
-    (λ table h. second_by law (former_pair former frame table.number) (is_pair table.number) table (h.form ∙ two_form former frame table.number m l) h.rows) tables stored.tables in
+    (λ table h. second_by law (former_pair former frame table.number) (is_pair table.number) table (h.form ∙ two_form former frame table.number m k l) h.rows) tables stored.tables in
     record {
       means = ap (λ (ts : List (ℕ × List Kept)). record new { tables = ts }) (next_mean without_loss form tables each);
       kept = record {
         once = stored.once;
         former = elim former as (λ former. HasFormer frame former → HasFormer new (option_map without_tables former))
-            [ None ↦ λ h. let no : 0 ≡ 2 = sym h ∙ l in absurd (omega (arith, no)) | Some former ↦ λ h. (omega arith, record { schema = h.1.schema; joined = h.1.joined; alone = tt; taken = λ e. refl }) ] stored.former;
+            [ None ↦ λ h. let no : 0 ≡ 2 = sym h ∙ l in absurd (omega (arith, no)) | Some former ↦ λ h. (omega arith, record { schema = h.1.schema; joined = h.1.joined; alone = tt; taken = λ k e. refl }) ] stored.former;
         tables = next_stored without_loss form (record { frame = new; former = option_map without_tables former; tables = map tidied_table tables }) tables
-            (λ number. ap (over_pair Trimmed Old) (sym (without_pair former frame number)) ∙ sym (one_form (option_map without_tables former) new number m refl)) refl each;
+            (λ number. ap (over_pair Trimmed Old) (sym (without_pair former frame number)) ∙ sym (one_form (option_map without_tables former) new number m k refl)) refl each;
       };
     }
 
@@ -175,7 +204,7 @@ third : (frame : State) (former : Option Former) (tables : List StoredTable) →
 third frame former tables stored m k l =
     let new = record frame { left = 0; kind = kind.Nothing } in
     let each : Each (IsNext (λ row. row) (Own Old)) tables = each_of
-    (λ table h. third_by (former_pair former frame table.number) table (h.form ∙ one_form former frame table.number m l) h.rows) tables stored.tables in
+    (λ table h. third_by (former_pair former frame table.number) table (h.form ∙ one_form former frame table.number m k l) h.rows) tables stored.tables in
     let nothing = stored.stands.lost (rw (k, l) refl) in
     record {
       means = ap (λ (ts : List (ℕ × List Kept)). record new { tables = ts }) (next_mean (λ row. row) (λ number. Own Old) tables each ∙ same_rows (map table_meant tables));
@@ -186,15 +215,47 @@ third frame former tables stored m k l =
       };
     }
 
+-- The second step of rolling back leaves the old columns, and is the last.
+returned_next : (both : Option Shared) (table : StoredTable) → table.form ≡ over_pair Returned Old both → Each (λ row. IsStoredRow table.form row.1) table.rows
+    → IsNext without_loss (Own Old) table
+returned_next None table f h = next_by (Own Old) without_loss refl (λ row h. (refl, tt)) table f h
+returned_next (Some both) table f h = next_by (Returned (pair_over both)) without_loss refl (λ row h. (refl, tt)) table f h
+
+record IsReturned (frame : State) (tables : List StoredTable) : Type 0 where
+  means : meant (tidied_back_frame frame) (map tidied_table tables)
+      ≡ record (meant frame tables) { left = 0; kind = kind.Nothing; tables = map table_without_loss (map table_meant tables); lost_columns = [] }
+  kept : AreKept (record { frame = tidied_back_frame frame; former = None; tables = map tidied_table tables })
+
+is_returned : (frame : State) (former : Option Former) (tables : List StoredTable) → IsStored (record { frame = frame; former = former; tables = tables })
+    → frame.mode ≡ Calm → frame.kind ≡ kind.Rollback → IsReturned frame tables
+is_returned frame former tables stored m k =
+    let new = tidied_back_frame frame in
+    let each : Each (IsNext without_loss (Own Old)) tables = each_of
+    (λ table h. returned_next (former_pair former frame table.number) table (h.form ∙ back_form former frame table.number m k) h.rows) tables stored.tables in
+    record {
+      means = ap (λ (ts : List (ℕ × List Kept)). record new { tables = ts }) (next_mean without_loss (λ number. Own Old) tables each);
+      kept = record {
+        once = stored.once;
+        former = refl;
+        tables = next_stored without_loss (λ number. Own Old) (record { frame = new; former = None; tables = map tidied_table tables }) tables
+            (λ number. sym (no_form None new number m refl)) refl each;
+      };
+    }
+
+-- While steps are left one version stands.
+is_calm : (s : State) → ModeStands s s.mode → ¬ (s.kind ≡ kind.Nothing) → s.mode ≡ Calm
+is_calm s stands steps =
+    elim s.mode as (λ mode. ModeStands s mode → mode ≡ Calm) [ Calm ↦ λ h. refl | Both name schema fates ↦ λ h. absurd (steps h.no_steps) ] stands
+
 -- The next step leaves what the machine's leaves.
 pub is_tidied : Below → (frame : State) (former : Option Former) (tables : List StoredTable) → IsStored (record { frame = frame; former = former; tables = tables }) → frame.kind ≡ kind.Complete → IsTidied (frame.left == 2) frame former tables
 is_tidied law frame former tables stored k =
     let s = meant frame tables in
-    let calm = elim frame.mode as (λ mode. ModeStands s mode → mode ≡ Calm) [ Calm ↦ λ h. refl | Both name schema fates ↦ λ h. let no : kind.Complete ≡ kind.Nothing = sym k ∙ h.no_steps in cc ] stored.stands.mode in
+    let calm = is_calm s stored.stands.mode (λ none. let no : kind.Complete ≡ kind.Nothing = sym k ∙ none in cc) in
     by_left calm (subst (λ by. StepsStand by frame.left) k stored.stands.steps)
   where
     by_left : frame.mode ≡ Calm → (frame.left ≡ 2) ⊎ (frame.left ≡ 1) → IsTidied (frame.left == 2) frame former tables
-    by_left m (inl l) = subst (λ two. IsTidied two frame former tables) (sym (ap (λ n. n == 2) l)) (second law frame former tables stored m l)
+    by_left m (inl l) = subst (λ two. IsTidied two frame former tables) (sym (ap (λ n. n == 2) l)) (second law frame former tables stored m k l)
     by_left m (inr l) = subst (λ two. IsTidied two frame former tables) (sym (ap (λ n. n == 2) l)) (third frame former tables stored m k l)
 
 -- ---- the whole
@@ -213,3 +274,12 @@ tidies law stored is k =
     let reply = elim (stored.frame.left == 2) as (λ two. Complete (if two then 2 else 3) ≡ (if two then stepped 2 second else stepped 3 third).reply) [ true ↦ refl | false ↦ refl ] in
     let after = elim (stored.frame.left == 2) as (λ two. (if two then second else third) ≡ (if two then stepped 2 second else stepped 3 third).after) [ true ↦ refl | false ↦ refl ] in
     ((tidied s, rw k refl, reply, next.means ∙ after), next.kept)
+
+-- So does the second step of rolling back.
+pub tidies_back : (stored : Stored) → IsStored stored → stored.frame.kind ≡ kind.Rollback
+    → Goes stored (rollback (meaning stored)) (Ok (Rollback 2)) (tidied_back_parts stored) × AreKept (tidied_back_parts stored)
+tidies_back stored is k =
+    let s = meaning stored in
+    let calm = is_calm s is.stands.mode (λ none. let no : kind.Rollback ≡ kind.Nothing = sym k ∙ none in cc) in
+    let next = is_returned stored.frame stored.former stored.tables is calm k in
+    ((tidied_back s, rw k refl, refl, next.means), next.kept)

@@ -4,7 +4,8 @@ use Rattle.roll_core.proofs.Words.{Because, NoMemory, Event, Reply, State, Nothi
 use Rattle.roll_core.proofs.Words.{may_want, outcome_of, Former, Comes, RowsStored, SameForms, meant, reply_of, IsStored, IsStoredTable, Stored, StoredTable, form_in, lost_columns_by, CommandOutcome}
 use Rattle.roll_core.proofs.Words.{Done, as_outcome, complete, start, ComesTo, Cmd, Start, command_outcome, event_of, AreKept, Goes, nil_from_length, ◌++◌, None, int_cmp, Value, RunsReachLawful}
 use Rattle.roll_core.proofs.Words.{RunsReachStates, beginning, Rows, Own, first_stored, Below, Old, OwnFormer, former_seen, option_map}
-use Rattle.roll_core.specs.declared.commands.Cmd.TheVariants.{Complete}
+use Rattle.roll_core.specs.declared.commands.Cmd.TheVariants.{Complete, Rollback}
+use Rattle.roll_core.proofs.Words.{rollback}
 use Rattle.roll_core.proofs.Words.finite
 use Rattle.roll_core.proofs.Runs.{runs_of}
 
@@ -86,6 +87,7 @@ accepted s t outcome reply done is r a = subst (λ o. ComesTo s (as_outcome o) r
 pub done_step : (old new : Stored) (cmd : Cmd) (reply : Reply) → Goes old (command_outcome (meaning old) cmd) (Ok reply) new → Step (meaning old) (event_of cmd) reply (meaning new)
 done_step old new (Start asked) reply g = (g.0.wrote, inl (accepted (meaning old) (meaning new) (start (meaning old) asked) reply g.0 g.1 g.2 g.3))
 done_step old new Complete reply g = (g.0.wrote, inl (accepted (meaning old) (meaning new) (complete (meaning old)) reply g.0 g.1 g.2 g.3))
+done_step old new Rollback reply g = (g.0.wrote, inl (accepted (meaning old) (meaning new) (rollback (meaning old)) reply g.0 g.1 g.2 g.3))
 
 -- ---- what an engine stores
 

@@ -3,6 +3,7 @@ use Rattle.roll_core.proofs.Words.{halves_of, Shape, get_or_append_left, ◌≡�
 use Rattle.roll_core.proofs.Words.{length, map, take, append_assoc, arith, not, inl, zero-add, slice_index_or, filter, enumerate_from, zip, take_at, sum_by-cons, Value, Null, row_fits, and_false}
 use Rattle.roll_core.proofs.Words.{columns_fit, columns_long, row_long, value_weight, Cell, Carry, Make, Still, is_carry, Halves, Kept, lost_columns_in, lost_value, lost_weight, Pair, Agree, IsPair}
 use Rattle.roll_core.proofs.Words.{PairsAreLong, mark_value, new_half, new_view, old_view, shadow_values, stored_row, FilledBefore, LeftRowsKeep, left_row, left_value, Form, Own, Paired}
+use Rattle.roll_core.proofs.Words.{ReturnedBefore, ReturnedRowsKeep, Returned, is_shadow, returned_row, shadows_before, shadows_shown, sum_by}
 use Rattle.roll_core.proofs.Words.{half, halves_on, unwrap_or, New, Old, Side, Left, Trimmed, IsStoredRow, kept, lost_of, stored_values, Below}
 
 -- ---- which rows can be stored in a form
@@ -13,11 +14,17 @@ FormStands (Own side) = Unit {0}
 FormStands (Paired pair) = IsPair pair
 FormStands (Left pair) = IsPair pair
 FormStands (Trimmed pair) = IsPair pair
+FormStands (Returned pair) = IsPair pair
 
 -- The lost weight of a row that is written over what was stored, if anything was.
 abbrev pub lost_over : Pair → Option (List Value) → ℕ
-lost_over pair None = lost_columns_in pair.lens
+lost_over pair None = lost_columns_in Old pair.lens
 lost_over pair (Some stored) = lost_of (Left pair) stored
+
+-- The same, where the new version is gone.
+abbrev pub returned_over : Pair → Option (List Value) → ℕ
+returned_over pair None = lost_columns_in New pair.lens
+returned_over pair (Some stored) = lost_of (Returned pair) stored
 
 -- The row has this side's half alone.
 pub record Alone (side : Side) (row : Kept) : Type 0 where
@@ -43,6 +50,7 @@ Storable (Own side) before row = Alone side row × (row.lost ≡ 0)
 Storable (Paired pair) before row = Together pair row × (row.lost ≡ 0)
 Storable (Left pair) before row = AloneFits Old pair.new row × FilledBefore pair before × (row.lost ≡ lost_over pair before)
 Storable (Trimmed pair) before row = AloneFits Old pair.new row × (row.lost ≡ 0)
+Storable (Returned pair) before row = AloneFits Old pair.old row × ReturnedBefore pair before × (row.lost ≡ returned_over pair before)
 
 -- ---- lost weights
 
@@ -86,6 +94,43 @@ left_lost long keep pair values (Some stored) p was =
     let same : (i : ℕ) → i < length pair.lens.old_cols → slice_index_or stored (0 + i) Null ≡ slice_index_or was.old i Null = λ i few.
     ap (λ n. slice_index_or stored n Null) (zero-add i) ∙ ap (λ row. slice_index_or row i Null) is ∙ get_or_append_left was.old (shadow ++ mark) Null i (omega arith) in
     ap (lost_weight pair.lens.old_cols) (keep pair values (Some stored) p) ∙ left_weight pair.lens.old_cols values stored was.old 0 cells_long same ∙ ap (lost_weight pair.lens.old_cols) (sym shown)
+
+-- ---- lost weights, where the new version is gone
+
+-- What is lost weighs what the values weigh that have places of their own.
+shadow_weight : (cells : List Cell) (values : List Value) → lost_weight cells values ≡ sum_by value_weight (shadow_values cells values)
+shadow_weight [] [] = refl
+shadow_weight [] (value ∷ values) = refl
+shadow_weight (cell ∷ cells) [] = refl
+shadow_weight (Carry from ∷ cells) (value ∷ values) =
+    add_lost (Carry from) value cells values ∙ zero-add (lost_weight cells values) ∙ shadow_weight cells values
+shadow_weight (Make up ∷ cells) (value ∷ values) =
+    add_lost (Make up) value cells values ∙ ap (λ n. value_weight value + n) (shadow_weight cells values)
+    ∙ sym (sum_by-cons value_weight value (shadow_values cells values))
+shadow_weight (Still constant ∷ cells) (value ∷ values) =
+    add_lost (Still constant) value cells values ∙ ap (λ n. value_weight value + n) (shadow_weight cells values)
+    ∙ sym (sum_by-cons value_weight value (shadow_values cells values))
+
+-- Each NULL weighs 1.
+nulls_weigh : (cells : List Cell) → sum_by value_weight (map (λ cell. Null) (filter is_shadow cells)) ≡ length (filter (λ cell. not (is_carry cell)) cells)
+nulls_weigh [] = refl
+nulls_weigh (Carry from ∷ cells) = nulls_weigh cells
+nulls_weigh (Make up ∷ cells) = one_more (Make up) (sum_by-cons value_weight Null (map (λ cell. Null) (filter is_shadow cells))) (nulls_weigh cells)
+nulls_weigh (Still constant ∷ cells) =
+    one_more (Still constant) (sum_by-cons value_weight Null (map (λ cell. Null) (filter is_shadow cells))) (nulls_weigh cells)
+
+shown_weight : (pair : Pair) (stored : List Value) → lost_of (Returned pair) stored ≡ sum_by value_weight (shadows_shown pair stored)
+shown_weight pair stored = shadow_weight pair.lens.new_cols (new_view pair stored)
+
+before_weight : (pair : Pair) (before : Option (List Value)) → sum_by value_weight (shadows_before pair before) ≡ returned_over pair before
+before_weight pair None = nulls_weigh pair.lens.new_cols
+before_weight pair (Some stored) = sym (shown_weight pair stored)
+
+-- The lost weight of what is written over what was stored is the weight of that.
+returned_lost : ReturnedRowsKeep → (pair : Pair) (values : List Value) (before : Option (List Value)) → IsPair pair → row_fits pair.old values ≡ true → ReturnedBefore pair before
+    → lost_of (Returned pair) (returned_row pair.lens values before) ≡ returned_over pair before
+returned_lost keep pair values before p fit was =
+    shown_weight pair (returned_row pair.lens values before) ∙ ap (sum_by value_weight) (keep pair values before p fit was) ∙ before_weight pair before
 
 -- ---- the halves of what is stored
 
@@ -136,3 +181,8 @@ stores_row law (Trimmed pair) before row p s =
     let there = law.shown pair a.values None p a.fits in
     let shown = law.trims pair left p there.1 ∙ there.0 in
     stored_as (Trimmed pair) before row (record { old = Some a.values; new = None }) a.halves (ap (λ v. record { old = Some v; new = None }) shown) (sym s.1) (law.trimmed pair left p (law.filled pair a.values None p a.fits tt))
+stores_row law (Returned pair) before row p s =
+    let a = s.0 in
+    let there = law.returned pair a.values before p a.fits s.1 in
+    let lost = returned_lost law.returned_kept pair a.values before p a.fits s.1 in
+    stored_as (Returned pair) before row (record { old = Some a.values; new = None }) a.halves (ap (λ v. record { old = Some v; new = None }) there.0) (lost ∙ sym s.2) there.1

@@ -1,5 +1,5 @@
 -- Stored tables, and the tables of the state that they mean.
-use Rattle.roll_core.proofs.Words.{Below, ◌||◌, map-set, slice_get-get_or, slice_get-map, SameForms, FormSuits, Own, Paired, Left, Trimmed, Form, lost_columns_of, arith, Result, Ok, Err, OnErr, ◌+◌}
+use Rattle.roll_core.proofs.Words.{Below, ◌||◌, map-set, slice_get-get_or, slice_get-map, SameForms, FormSuits, Own, Paired, Left, Returned, Trimmed, Form, lost_columns_of, arith, Result, Ok, Err, OnErr, ◌+◌}
 use Rattle.roll_core.proofs.Words.{◌≡◌, ◌≤◌, ◌<◌, ◌==◌, ◌∙◌, ℕ, zero, suc, List, [], ◌∷◌, Bool, true, false, Some, find, if◌then◌else◌, length, map, nat_eq, ap, refl, sym, subst, option_map}
 use Rattle.roll_core.proofs.Words.{option_and_then, le_of_eq, slice_get, slice_index_or, slice_set, sum_by, AllByRecursion, list_all, list_any, option_map_or, nat_tests, length-map, sum_by-cons}
 use Rattle.roll_core.proofs.Words.{Change, both, some_same, Table, table_numbered, Kept, Site, number_of, Calm, Both, State, numbers_of, IsState, ModeStands, NumbersAscend, newer_schema, rows_of}
@@ -192,6 +192,7 @@ suits_meant frame tables number (Own side) h = on_meant frame tables (other side
 suits_meant frame tables number (Paired pair) h = record { both = h.both; shares = h.shares; over = h.over; is_pair = h.is_pair }
 suits_meant frame tables number (Left pair) h = record { calm = h.calm; is_pair = h.is_pair; shape = h.shape }
 suits_meant frame tables number (Trimmed pair) h = record { calm = h.calm; is_pair = h.is_pair; shape = h.shape }
+suits_meant frame tables number (Returned pair) h = record { calm = h.calm; is_pair = h.is_pair; shape = h.shape }
 
 -- ---- the number of rows
 

@@ -20,7 +20,7 @@ use Rattle.machine.specs.Follows.{goes_on_filling}
 use Rattle.machine.specs.Migrate.{least_batch, refused_batch}
 use Rattle.machine.specs.Statement.{written_reply}
 use Rattle.roll_core.specs.declared.forms.Form.{Form}
-use Rattle.roll_core.specs.declared.forms.Form.TheVariants.{Own, Paired, Left, Trimmed}
+use Rattle.roll_core.specs.declared.forms.Form.TheVariants.{Own, Paired, Left, Trimmed, Returned}
 use Rattle.roll_core.specs.declared.store.StoredTable.{StoredTable as OwnTable}
 use Rattle.roll_core.specs.Changing.{with_changes}
 use Rattle.roll_core.specs.Running.{Comes, RowsStored, SameForms, meant, reply_of}
@@ -33,6 +33,7 @@ is_paired (Own side) = false
 is_paired (Paired pair) = true
 is_paired (Left pair) = false
 is_paired (Trimmed pair) = false
+is_paired (Returned pair) = false
 
 -- A row of the table is still to be filled. (One version alone has nothing to fill.)
 abbrev pub is_unfilled : StoredTable → Bool

@@ -4,7 +4,7 @@ use Rattle.machine.specs.Laws.{BothAreShared, ChangesAgree, ChangesKeep, FilledR
 use Rattle.mig_plan.specs.Laws.{PlannedNumbersFit}
 use Rattle.row_store.specs.Laws.{RemovedIsLeftOut}
 use Rattle.trigger_pair.specs.Laws.{BeginningLeaves, BegunRowsHold, FilledRowsAreLong, PairsAreLong, StoredRowsHold, UnfilledRowsAreBegun}
-use Rattle.phase_steps.specs.Laws.{LeftRowsAreFilled, LeftRowsKeep, LeftRowsShow, TrimmingKeepsView, TrimmingLeavesTrimmed}
+use Rattle.phase_steps.specs.Laws.{LeftRowsAreFilled, PairedRowsAreReturned, ReturnedRowsAreLong, ReturnedRowsKeep, ReturnedRowsShow, LeftRowsKeep, LeftRowsShow, TrimmingKeepsView, TrimmingLeavesTrimmed}
 
 pub record Below : Type 0 where
   -- migrations
@@ -39,3 +39,7 @@ pub record Below : Type 0 where
   pub filled : LeftRowsAreFilled
   pub trims : TrimmingKeepsView
   pub trimmed : TrimmingLeavesTrimmed
+  pub returned : ReturnedRowsShow
+  pub returned_kept : ReturnedRowsKeep
+  pub still_returned : PairedRowsAreReturned
+  pub returned_long : ReturnedRowsAreLong

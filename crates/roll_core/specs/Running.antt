@@ -28,7 +28,7 @@ use Rattle.machine.specs.Words.{Old}
 use Rattle.trigger_pair.specs.declared.pairs.Pair.{Pair}
 use Rattle.trigger_pair.specs.Laws.{IsPair}
 use Rattle.roll_core.specs.declared.forms.Form.{Form}
-use Rattle.roll_core.specs.declared.forms.Form.TheVariants.{Own, Paired, Left, Trimmed}
+use Rattle.roll_core.specs.declared.forms.Form.TheVariants.{Own, Paired, Left, Trimmed, Returned}
 use Rattle.roll_core.specs.Store.{IsStoredRow, StoredTable, lost_columns_by, pair_over, rows_meant, table_meant}
 
 -- The state that a frame and tables mean.
@@ -53,12 +53,19 @@ pub record LeftBy (s : State) (number : ℕ) (pair : Pair) : Type 0 where
   pub is_pair : IsPair pair
   pub shape : (table : Table) → table_on s Old number ≡ Some table → pair.new ≡ shape_of table
 
+-- The same, where it is the pair's old one.
+pub record ReturnedBy (s : State) (number : ℕ) (pair : Pair) : Type 0 where
+  pub calm : s.mode ≡ Calm
+  pub is_pair : IsPair pair
+  pub shape : (table : Table) → table_on s Old number ≡ Some table → pair.old ≡ shape_of table
+
 -- (What one version has alone the other one doesn't have.)
 abbrev pub FormSuits : State → ℕ → Form → Type 0
 FormSuits s number (Own side) = table_on s (other side) number ≡ None
 FormSuits s number (Paired pair) = PairedBy s number pair
 FormSuits s number (Left pair) = LeftBy s number pair
 FormSuits s number (Trimmed pair) = LeftBy s number pair
+FormSuits s number (Returned pair) = ReturnedBy s number pair
 
 -- The rows of a table are stored in its form.
 abbrev pub RowsStored : StoredTable → Type 0

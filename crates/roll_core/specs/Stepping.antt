@@ -14,7 +14,7 @@ use Rattle.mig_lens.specs.declared.plans.Plan.{Plan}
 use Rattle.mig_lens.specs.Plan.{created_in, table_numbered}
 use Rattle.row_rules.specs.Outcome.{first_some, guarded, without}
 use Rattle.row_rules.specs.Rows.{missing_keys}
-use Rattle.row_rules.specs.Site.{name_of}
+use Rattle.row_rules.specs.Site.{name_of, other}
 use Rattle.row_rules.specs.Steps.{invalid_cause}
 use Rattle.sql_eval.specs.Row.{least}
 use Rattle.row_rules.specs.declared.stops.Stop.{Stop}
@@ -29,23 +29,25 @@ use Rattle.machine.specs.State.{Shared, lens_among, shared, table_on}
 use Rattle.machine.specs.Laws.{leaves_all}
 use Rattle.machine.specs.declared.events.Asked.{Asked}
 use Rattle.machine.specs.declared.events.Asked.TheVariants.{Read as Migrates, Refused as NotRead}
-use Rattle.machine.specs.Words.{Cause, New, Old}
+use Rattle.machine.specs.Words.{Cause, New, Old, Side}
 use Rattle.roll_core.specs.declared.commands.Cmd.{Cmd}
-use Rattle.roll_core.specs.declared.commands.Cmd.TheVariants.{Start, Complete}
-use Rattle.trigger_pair.specs.Stored.{begun}
+use Rattle.roll_core.specs.declared.commands.Cmd.TheVariants.{Start, Complete, Rollback}
+use Rattle.trigger_pair.specs.declared.pairs.Pair.{Pair}
+use Rattle.trigger_pair.specs.Stored.{begun, old_view}
 use Rattle.phase_steps.specs.Rows.{trimmed, trimmed_view}
 use Rattle.roll_core.specs.declared.forms.Form.{Form}
-use Rattle.roll_core.specs.declared.forms.Form.TheVariants.{Own, Paired, Left, Trimmed}
+use Rattle.roll_core.specs.declared.forms.Form.TheVariants.{Own, Paired, Left, Trimmed, Returned}
 use Rattle.roll_core.specs.Store.{Former, HasFormer, IsStored, IsStoredTable, Stored, StoredRow, StoredTable, meaning, over_pair, rows_meant, table_meant}
 
 -- ---- rows
 
--- The values that a step stores of a row. START, which leads to the pair's layout, stores it as the row is to begin with. The second step of completing, which leads from that layout, takes the old columns that are lost and the mark; the third orders the places.
+-- The values that a step stores of a row. START, which leads to the pair's layout, stores it as the row is to begin with. The second step of completing, which leads from that layout, takes the old columns that are lost and the mark; the third orders the places. The second step of rolling back leaves the old columns.
 abbrev pub stepped_values : Form → List Value → List Value
 stepped_values (Own side) values = values
 stepped_values (Paired pair) values = begun pair values
 stepped_values (Left pair) values = trimmed pair.lens values
 stepped_values (Trimmed pair) values = trimmed_view pair.lens values
+stepped_values (Returned pair) values = old_view pair values
 
 abbrev pub stepped_row : Form → StoredRow → StoredRow
 stepped_row form row = (row.0, stepped_values form row.1)
@@ -73,29 +75,36 @@ begun_table frame plan table = record {
 abbrev pub created_table : ℕ → StoredTable
 created_table number = record { number = number; form = Own New; rows = [] }
 
--- The first step of completing leaves the rows as they are stored. The new version is the old side from then on.
-abbrev pub left_form : Form → Form
-left_form (Own side) = Own Old
-left_form (Paired pair) = Left pair
-left_form (Left pair) = Left pair
-left_form (Trimmed pair) = Trimmed pair
+-- The form of a table of which the version of a side is gone.
+abbrev pub form_without : Side → Pair → Form
+form_without Old pair = Left pair
+form_without New pair = Returned pair
 
-abbrev pub left_table : StoredTable → StoredTable
-left_table table = record table { form = left_form table.form }
+-- The first step of completing and that of rolling back leave the rows as they are stored. The version that stays is the old side from then on.
+abbrev pub left_form : Side → Form → Form
+left_form gone (Own side) = Own Old
+left_form gone (Paired pair) = form_without gone pair
+left_form gone (Left pair) = Left pair
+left_form gone (Trimmed pair) = Trimmed pair
+left_form gone (Returned pair) = Returned pair
 
--- The next form: after the second step the places are left that stay, and after the third one the version's own columns.
+abbrev pub left_table : Side → StoredTable → StoredTable
+left_table gone table = record table { form = left_form gone table.form }
+
+-- The next form: after the second step of completing the places are left that stay, and after the third one, or the second of rolling back, the version's own columns.
 abbrev pub tidied_form : Form → Form
 tidied_form (Own side) = Own side
 tidied_form (Paired pair) = Paired pair
 tidied_form (Left pair) = Trimmed pair
 tidied_form (Trimmed pair) = Own Old
+tidied_form (Returned pair) = Own Old
 
 abbrev pub tidied_table : StoredTable → StoredTable
 tidied_table table = record { number = table.number; form = tidied_form table.form; rows = map (stepped_row table.form) table.rows }
 
--- How many columns of a table are lost with the old version, where any is.
-abbrev pub lost_by : List (ℕ × Fate) → StoredTable → Option (ℕ × ℕ)
-lost_by fates table = lost_in_table fates (table_meant table)
+-- How many columns of a table are lost with the version of a side, where any is.
+abbrev pub lost_by : Side → List (ℕ × Fate) → StoredTable → Option (ℕ × ℕ)
+lost_by gone fates table = lost_in_table gone fates (table_meant table)
 
 -- ---- START
 
@@ -110,7 +119,7 @@ begun_frame frame name plan = record frame {
   next_table = frame.next_table + length (created_in plan.fates);
 }
 
--- ---- the first step of completing
+-- ---- whether a migration may be completed
 
 -- Why the rows of a table that the frame has can't stand in the new version alone: P4 and P5.
 abbrev pub not_filled_in : State → StoredTable → Option Refusal
@@ -124,38 +133,43 @@ abbrev pub may_not_complete : State → List StoredTable → Option Refusal
 may_not_complete frame tables =
     option_or (first_some (not_filled_in frame) tables) (option_map not_valid (first_some (invalid_in frame) tables))
 
--- The new version alone stands, with two steps of tidying left.
-abbrev pub left_by : State → List (ℕ × ℕ) → Mode → State
-left_by frame lost Calm = frame
-left_by frame lost (Both name schema fates) = record frame { version = name; schema = schema; mode = Calm; left = 2; kind = kind.Complete; lost_columns = lost }
+-- ---- the first step of completing or of rolling back, by the side of the version that goes
 
-abbrev pub left_frame : List (ℕ × ℕ) → State → State
-left_frame lost frame = left_by frame lost frame.mode
+-- The other version alone stands: the new one with two steps of tidying left, or the old one with one.
+abbrev pub left_by : Side → State → List (ℕ × ℕ) → Mode → State
+left_by gone frame lost Calm = frame
+left_by Old frame lost (Both name schema fates) = record frame { version = name; schema = schema; mode = Calm; left = 2; kind = kind.Complete; lost_columns = lost }
+left_by New frame lost (Both name schema fates) = record frame { mode = Calm; left = 1; kind = kind.Rollback; lost_columns = lost }
 
--- The columns that are lost with the old version.
-abbrev pub lost_columns : Mode → List StoredTable → List (ℕ × ℕ)
-lost_columns Calm tables = []
-lost_columns (Both name schema fates) tables = filter_map (lost_by fates) tables
+abbrev pub left_frame : Side → List (ℕ × ℕ) → State → State
+left_frame gone lost frame = left_by gone frame lost frame.mode
 
--- The tables that the new version has stay, and those that the old one alone has go with it.
-abbrev pub stays : State → StoredTable → Bool
-stays frame table = is_some (table_on frame New table.number)
+-- The columns that are lost.
+abbrev pub lost_columns : Side → Mode → List StoredTable → List (ℕ × ℕ)
+lost_columns gone Calm tables = []
+lost_columns gone (Both name schema fates) tables = filter_map (lost_by gone fates) tables
 
-abbrev pub goes : State → StoredTable → Bool
-goes frame table = not (stays frame table)
+-- The tables that the other version has stay, and those that this one alone has go with it.
+abbrev pub stays : Side → State → StoredTable → Bool
+stays gone frame table = is_some (table_on frame (other gone) table.number)
+
+abbrev pub goes : Side → State → StoredTable → Bool
+goes gone frame table = not (stays gone frame table)
 
 -- What is kept of the version that goes, with these tables.
-abbrev pub former_by : State → Mode → List StoredTable → Option Former
-former_by frame Calm tables = None
-former_by frame (Both name schema fates) tables =
+abbrev pub former_by : Side → State → Mode → List StoredTable → Option Former
+former_by gone frame Calm tables = None
+former_by Old frame (Both name schema fates) tables =
     Some (record { version = frame.version; schema = frame.schema; fates = fates; tables = tables })
+former_by New frame (Both name schema fates) tables =
+    Some (record { version = name; schema = schema; fates = fates; tables = tables })
 
-abbrev pub former_of : Stored → Option Former
-former_of stored = former_by stored.frame stored.frame.mode (filter (goes stored.frame) stored.tables)
+abbrev pub former_of : Side → Stored → Option Former
+former_of gone stored = former_by gone stored.frame stored.frame.mode (filter (goes gone stored.frame) stored.tables)
 
 -- ---- the other steps
 
--- The second step takes what was lost, and the third one is the last.
+-- The second step of completing takes what was lost, and the third one is the last.
 abbrev pub tidied_frame : State → State
 tidied_frame frame =
     if frame.left == 2 then record frame { left = 1; lost_columns = [] } else record frame { left = 0; kind = kind.Nothing }
@@ -170,6 +184,10 @@ tidied_former frame former = if frame.left == 2 then option_map without_tables f
 abbrev pub tidied_number : State → ℕ
 tidied_number frame = if frame.left == 2 then 2 else 3
 
+-- The second step of rolling back takes what was lost, and is the last.
+abbrev pub tidied_back_frame : State → State
+tidied_back_frame frame = record frame { left = 0; kind = kind.Nothing; lost_columns = [] }
+
 -- ---- all that is stored
 
 abbrev pub begun_parts : List ℕ → Plan → Stored → Stored
@@ -179,15 +197,15 @@ begun_parts name plan stored = record {
   tables = map (begun_table stored.frame plan) stored.tables ++ map created_table (created_in plan.fates);
 }
 
--- After the first step of completing.
-abbrev pub left_parts : Stored → Stored
-left_parts stored = record {
-  frame = left_frame (lost_columns stored.frame.mode stored.tables) stored.frame;
-  former = former_of stored;
-  tables = map left_table (filter (stays stored.frame) stored.tables);
+-- After the first step of completing or of rolling back, by the side of the version that goes.
+abbrev pub left_parts : Side → Stored → Stored
+left_parts gone stored = record {
+  frame = left_frame gone (lost_columns gone stored.frame.mode stored.tables) stored.frame;
+  former = former_of gone stored;
+  tables = map (left_table gone) (filter (stays gone stored.frame) stored.tables);
 }
 
--- After the second or the third.
+-- After the second step of completing or the third.
 abbrev pub tidied_parts : Stored → Stored
 tidied_parts stored = record {
   frame = tidied_frame stored.frame;
@@ -195,14 +213,31 @@ tidied_parts stored = record {
   tables = map tidied_table stored.tables;
 }
 
+-- After the second step of rolling back.
+abbrev pub tidied_back_parts : Stored → Stored
+tidied_back_parts stored = record {
+  frame = tidied_back_frame stored.frame;
+  former = None;
+  tables = map tidied_table stored.tables;
+}
+
 abbrev pub completed_by : Stored → Kind → Stored
-completed_by stored kind.Nothing = left_parts stored
+completed_by stored kind.Nothing = left_parts Old stored
 completed_by stored kind.Complete = tidied_parts stored
 completed_by stored kind.Rollback = stored
 
 -- After the step of completing that is next.
 abbrev pub completed_parts : Stored → Stored
 completed_parts stored = completed_by stored stored.frame.kind
+
+abbrev pub rolled_back_by : Stored → Kind → Stored
+rolled_back_by stored kind.Nothing = left_parts New stored
+rolled_back_by stored kind.Complete = stored
+rolled_back_by stored kind.Rollback = tidied_back_parts stored
+
+-- After the step of rolling back that is next.
+abbrev pub rolled_back_parts : Stored → Stored
+rolled_back_parts stored = rolled_back_by stored stored.frame.kind
 
 -- What is stored after a START that is accepted: the migration's plan is begun.
 abbrev pub StartStores : Stored → Asked → Stored → Type 0
@@ -213,6 +248,7 @@ StartStores old (NotRead refusal) new = ⊥
 abbrev pub DoneStores : Stored → Cmd → Stored → Type 0
 DoneStores old (Start asked) new = StartStores old asked new
 DoneStores old Complete new = new ≡ completed_parts old
+DoneStores old Rollback new = new ≡ rolled_back_parts old
 
 -- The reply of an accepted command comes with what is stored after it.
 abbrev pub Stores : Stored → Cmd → Reply → Stored → Type 0

@@ -32,7 +32,7 @@ fn is_unfilled(table: &StoredTable) -> bool
 {
     match &table.form {
         Form::Paired(_) => any_missing(table),
-        Form::Own(_) | Form::Left(_) | Form::Trimmed(_) => false,
+        Form::Own(_) | Form::Left(_) | Form::Trimmed(_) | Form::Returned(_) => false,
     }
 }
 

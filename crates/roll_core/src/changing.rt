@@ -9,7 +9,7 @@ ghost use Rattle.roll_core.specs.Store as model;
 use crate::forms::{Form, copied};
 use crate::store::StoredTable;
 use mig_lens::Side;
-use phase_steps::{left_row, trimmed};
+use phase_steps::{left_row, returned_row, trimmed};
 use row_rules::{Change, Halves};
 use row_store::RowStore;
 use sql_base::{List, NoMemory, Value};
@@ -66,6 +66,7 @@ fn stored_values(
             let left = left_row(alloc, &pair.lens, old, None)?;
             trimmed(alloc, &pair.lens, left.as_slice())
         }
+        Form::Returned(pair) => returned_row(alloc, &pair.lens, old, before),
     }
 }
 

@@ -8,6 +8,7 @@ ghost use Rattle.roll_core.specs.Stepping as spec;
 ghost use Rattle.roll_core.specs.Store.{IsStored, meaning};
 
 use crate::complete::complete;
+use crate::rollback::rollback;
 use crate::start::start;
 use crate::store::{Former, StoredTable};
 use machine::{Asked, Reply, State};
@@ -23,6 +24,8 @@ pub enum Cmd {
     Start(Asked),
     /// The migration is to be completed, or the next step of tidying after that to be done.
     Complete,
+    /// The migration is to be rolled back, or the step of tidying after that to be done.
+    Rollback,
 }
 
 // What the command comes to.
@@ -42,6 +45,7 @@ fn outcome(
     match cmd {
         Cmd::Start(asked) => start(alloc, frame, tables, asked),
         Cmd::Complete => complete(alloc, frame, former, tables),
+        Cmd::Rollback => rollback(alloc, frame, former, tables),
     }
 }
 

@@ -1,9 +1,7 @@
 //! COMPLETE: one step of a migration's completion.
-ghost use Rattle.std.specs.Prelude.{◌≡◌, ◌≤◌, ◌<◌, ◌+◌, ◌++◌, ◌∷◌, [], false, IfOk, None, Ok, OnErr, OnOk, is_some, map, vec_capacity, vec_len};
-ghost use Rattle.std.specs.List.{filter, filter_map};
+ghost use Rattle.std.specs.Prelude.{◌≡◌, [], false, true, IfOk, None, Ok, OnErr, OnOk, is_some, map};
 ghost use Rattle.std.specs.Option.{option_map};
 ghost use Rattle.mig_lens.specs.declared.faults.Kind.TheVariants as kind;
-ghost use Rattle.mig_lens.specs.Lens.{is_carry};
 ghost use Rattle.row_rules.specs.Outcome.{first_some};
 ghost use Rattle.machine.specs.Laws.{leaves_all};
 ghost use Rattle.machine.specs.Migrate as migrate;
@@ -12,17 +10,16 @@ ghost use Rattle.roll_core.specs.Seen.{former_seen, parts, seen};
 ghost use Rattle.roll_core.specs.Stepping as spec;
 ghost use Rattle.roll_core.specs.Store as model;
 
-use crate::forms::Form;
 use crate::laws::laws_below;
-use crate::stepping::stepped_rows;
+use crate::leaving::leave;
 use crate::store::{Former, StoredTable};
-use machine::parts::{lens_among, not_valid, shared, table_on};
+use crate::tidying::tidied_tables;
+use machine::parts::{not_valid, shared, table_on};
 use machine::{Mode, Reply, State};
-use mig_lens::{Cell, Fate, Kind, Lens, Refusal, Side};
+use mig_lens::{Kind, Refusal, Side};
 use row_rules::{Cause, Stop, invalid_cause, least_missing};
-use sql_base::{Copying, List, Name, NoMemory, Schema};
+use sql_base::{Copying, List, NoMemory};
 use std::alloc::Global;
-use std::mem::replace;
 
 // ---- whether the migration may be completed
 
@@ -96,232 +93,7 @@ fn may_not_complete(
     }
 }
 
-// ---- what is lost
-
-fn is_carried(cell: &Cell) -> bool
-    ensures { result ≡ is_carry cell.now }
-{
-    match cell {
-        Cell::Carry(_) => true,
-        Cell::Make(_) | Cell::Still(_) => false,
-    }
-}
-
-// How many columns are lost.
-fn lost_columns_in(lens: &Lens) -> usize
-    ensures { result ≡ migrate.lost_columns_in lens.now }
-{
-    let mut count = 0;
-    for cell in lens.old_cols.as_slice() {
-        if !is_carried(cell) {
-            count += 1;
-        }
-    }
-    count
-}
-
-// How many columns of a table are lost, where any is. A number that 32 bits don't hold is answered as want of memory.
-fn lost_by(fates: &[(u32, Fate)], table: &StoredTable) -> Result<Option<(u32, u32)>, NoMemory>
-    ensures { IfOk result (λ lost. lost ≡ spec.lost_by fates.now (seen table.now)) }
-{
-    let lost = match lens_among(fates, table.number) {
-        Some(lens) => lost_columns_in(lens),
-        None => 0,
-    };
-    match u32::try_from(lost) {
-        Ok(0) => Ok(None),
-        Ok(lost) => Ok(Some((table.number, lost))),
-        Err(_) => Err(NoMemory),
-    }
-}
-
-fn lost_among(
-    alloc: Global,
-    fates: &[(u32, Fate)],
-    tables: &[StoredTable],
-) -> Result<List<(u32, u32)>, NoMemory>
-    ensures { IfOk result (λ lost. lost ≡ filter_map (spec.lost_by fates.now) (map seen tables.now)) }
-{
-    let mut all = List::new(alloc);
-    for table in tables {
-        if let Some(lost) = lost_by(fates, table)? {
-            all.push(lost)?;
-        }
-    }
-    Ok(all)
-}
-
-// The columns that are lost with the old version, while two versions stand.
-fn lost_columns(
-    alloc: Global,
-    mode: &Mode,
-    tables: &[StoredTable],
-) -> Result<List<(u32, u32)>, NoMemory>
-    ensures { IfOk result (λ lost. lost ≡ spec.lost_columns mode.now (map seen tables.now)) }
-{
-    match mode {
-        Mode::Calm => Ok(List::new(alloc)),
-        Mode::Both { fates, .. } => lost_among(alloc, fates.as_slice(), tables),
-    }
-}
-
-// ---- the first step
-
-fn left_form(form: Form) -> Form
-    ensures { result ≡ spec.left_form form }
-{
-    match form {
-        Form::Own(_) => Form::Own(Side::Old),
-        Form::Paired(pair) => Form::Left(pair),
-        Form::Left(pair) => Form::Left(pair),
-        Form::Trimmed(pair) => Form::Trimmed(pair),
-    }
-}
-
-// A table that stays, with its rows as they are stored.
-fn left_table(table: StoredTable) -> StoredTable
-    ensures { seen result ≡ spec.left_table (seen table) }
-{
-    StoredTable {
-        number: table.number,
-        form: left_form(table.form),
-        rows: table.rows,
-    }
-}
-
-// Whether the new version has the table.
-fn stays(frame: &State, table: &StoredTable) -> bool
-    ensures { result ≡ spec.stays frame.now (seen table.now) }
-{
-    table_on(frame, Side::New, table.number).is_some()
-}
-
-// Moves a table to those that stay or to those that go, where there is room for one.
-fn part_one(
-    frame: &State,
-    table: StoredTable,
-    staying: &mut Vec<StoredTable>,
-    going: &mut Vec<StoredTable>,
-)
-    requires stay_room { vec_len staying.old < vec_capacity staying.old }
-    requires go_room { vec_len going.old < vec_capacity going.old }
-    ensures staying { map seen staying.new.items ≡ map seen staying.old.items
-        ++ map spec.left_table (filter (spec.stays frame.now) (seen table ∷ [])) }
-    ensures going { map seen going.new.items
-        ≡ map seen going.old.items ++ filter (spec.goes frame.now) (seen table ∷ []) }
-    ensures stay_len { vec_len staying.new ≤ vec_len staying.old + 1 }
-    ensures go_len { vec_len going.new ≤ vec_len going.old + 1 }
-    ensures stay_whole { vec_capacity staying.new ≡ vec_capacity staying.old }
-    ensures go_whole { vec_capacity going.new ≡ vec_capacity going.old }
-{
-    if stays(frame, &table) {
-        staying.push_reserved(left_table(table));
-    } else {
-        going.push_reserved(table);
-    }
-}
-
-// Moves the tables so, where there is room for all.
-fn part_all(
-    frame: &State,
-    tables: Vec<StoredTable>,
-    staying: &mut Vec<StoredTable>,
-    going: &mut Vec<StoredTable>,
-)
-    requires stay_room { vec_len staying.old + vec_len tables ≤ vec_capacity staying.old }
-    requires go_room { vec_len going.old + vec_len tables ≤ vec_capacity going.old }
-    ensures staying { map seen staying.new.items ≡ map seen staying.old.items
-        ++ map spec.left_table (filter (spec.stays frame.now) (map seen tables.items)) }
-    ensures going { map seen going.new.items
-        ≡ map seen going.old.items ++ filter (spec.goes frame.now) (map seen tables.items) }
-{
-    for table in tables {
-        part_one(frame, table, staying, going);
-    }
-}
-
-// The tables that the new version has stay, as the step leaves them, and the others are given. No row is copied. An error
-// is want of memory, and then the tables are as they were.
-fn part(
-    alloc: Global,
-    frame: &State,
-    tables: &mut Vec<StoredTable>,
-) -> Result<Vec<StoredTable>, NoMemory>
-    ensures staying { OnOk result (map seen tables.new.items
-        ≡ map spec.left_table (filter (spec.stays frame.now) (map seen tables.old.items))) }
-    ensures going { IfOk result (λ gone. map seen gone.items
-        ≡ filter (spec.goes frame.now) (map seen tables.old.items)) }
-    ensures err { OnErr result (tables.new.items ≡ tables.old.items) }
-{
-    let count = tables.len();
-    let mut staying = Vec::with_capacity(alloc, count)?;
-    let mut going = Vec::with_capacity(alloc, count)?;
-    let all = replace(tables, Vec::new(alloc));
-    part_all(frame, all, &mut staying, &mut going);
-    *tables = staying;
-    Ok(going)
-}
-
-// The new version stands alone, with two steps of tidying left; what the old one had is given, with these tables.
-fn left_frame(frame: &mut State, lost: List<(u32, u32)>, tables: Vec<StoredTable>) -> Option<Former>
-    ensures frame { frame.new ≡ spec.left_frame lost frame.old }
-    ensures former { option_map former_seen result
-        ≡ spec.former_by frame.old frame.old.mode (map seen tables.items) }
-{
-    match replace(&mut frame.mode, Mode::Calm) {
-        Mode::Calm => None,
-        Mode::Both {
-            name,
-            schema,
-            fates,
-        } => {
-            frame.left = 2;
-            frame.kind = Kind::Complete;
-            frame.lost_columns = lost;
-            Some(Former {
-                version: replace(&mut frame.version, name),
-                schema: replace(&mut frame.schema, schema),
-                fates,
-                tables,
-            })
-        }
-    }
-}
-
 // ---- the other steps
-
-fn tidied_form(alloc: Global, form: &Form) -> Result<Form, NoMemory>
-    ensures { IfOk result (λ tidied. tidied ≡ spec.tidied_form form.now) }
-{
-    match form {
-        Form::Own(side) => Ok(Form::Own(*side)),
-        Form::Paired(pair) => Ok(Form::Paired(pair.copy(alloc)?)),
-        Form::Left(pair) => Ok(Form::Trimmed(pair.copy(alloc)?)),
-        Form::Trimmed(_) => Ok(Form::Own(Side::Old)),
-    }
-}
-
-fn tidied_table(alloc: Global, table: &StoredTable) -> Result<StoredTable, NoMemory>
-    ensures { IfOk result (λ tidied. seen tidied ≡ spec.tidied_table (seen table.now)) }
-{
-    let form = tidied_form(alloc, &table.form)?;
-    let rows = stepped_rows(alloc, &table.form, &table.rows)?;
-    Ok(StoredTable {
-        number: table.number,
-        form,
-        rows,
-    })
-}
-
-fn tidied_tables(alloc: Global, tables: &[StoredTable]) -> Result<Vec<StoredTable>, NoMemory>
-    ensures { IfOk result (λ tidied. map seen tidied.items ≡ map spec.tidied_table (map seen tables.now)) }
-{
-    let mut tidied = Vec::new(alloc);
-    for table in tables {
-        tidied.push(tidied_table(alloc, table)?)?;
-    }
-    Ok(tidied)
-}
 
 // The tables that the version that is gone had alone go, with their rows.
 fn drop_tables(alloc: Global, former: &mut Option<Former>)
@@ -374,7 +146,9 @@ fn tidied(
     Ok(Reply::Complete(next_step(alloc, frame, former)))
 }
 
-// The first step of completing.
+// ---- the first step
+
+// The old version goes, where the rows allow it.
 fn finish(
     alloc: Global,
     frame: &mut State,
@@ -383,19 +157,17 @@ fn finish(
 ) -> Result<Reply, Stop<Refusal>>
     requires stored { model.IsStored (parts frame.old former.old tables.old.items) }
     requires none { frame.old.kind ≡ kind.Nothing }
-    requires active { migrate.inactive frame.old.mode ≡ None }
+    requires active { is_some (migrate.active_name frame.old.mode) ≡ true }
     ensures goes { spec.Goes (parts frame.old former.old tables.old.items) (migrate.complete (meant frame.old (map seen tables.old.items))) result (parts frame.new former.new tables.new.items) }
     ensures changes { IfOk result (λ reply. leaves_all reply ≡ false) }
-    ensures stored { OnOk result (parts frame.new former.new tables.new.items ≡ spec.left_parts (parts frame.old former.old tables.old.items)) }
+    ensures stored { OnOk result (parts frame.new former.new tables.new.items ≡ spec.left_parts Side.Old (parts frame.old former.old tables.old.items)) }
     ensures kept { spec.AreKept (parts frame.new former.new tables.new.items) }
 {
     laws_below();
     if let Some(refusal) = may_not_complete(alloc, frame, tables)? {
         return Err(Stop::Because(refusal));
     }
-    let lost = lost_columns(alloc, &frame.mode, tables)?;
-    let gone = part(alloc, frame, tables)?;
-    *former = left_frame(frame, lost, gone);
+    leave(alloc, Side::Old, frame, former, tables)?;
     Ok(Reply::Complete(1))
 }
 

@@ -128,8 +128,8 @@ impl Core {
 
     /// A command of a migration is one step of the machine. An accepted one stores exactly what its step leaves: START the
     /// rows as the migration's plan begins with them and a table without rows for each that it creates, COMPLETE what the
-    /// step of completing leaves that is next. A refused one changes nothing that is stored. An error is want of memory,
-    /// and then the engine is as it was.
+    /// step of completing leaves that is next, and ROLLBACK what the step of rolling back does. A refused one changes
+    /// nothing that is stored. An error is want of memory, and then the engine is as it was.
     pub fn ddl(&mut self, cmd: &Cmd) -> Result<Reply, NoMemory>
         ensures step { IfOk result (λ reply. Step (meaning self.old) (engine.event_of cmd.now) reply (meaning self.new)) }
         ensures refused { IfOk result (λ reply. leaves_all reply ≡ true → self.new ≡ self.old) }

@@ -6,7 +6,7 @@ ghost use Rattle.roll_core.specs.Store as spec;
 
 use machine::parts::lost_weight;
 use mig_lens::Side;
-use phase_steps::{left_row, trimmed, trimmed_view};
+use phase_steps::trimmed_view;
 use row_rules::Halves;
 use sql_base::{Copying, List, NoMemory, Value};
 use std::alloc::Global;
@@ -20,10 +20,13 @@ pub enum Form {
     Own(Side),
     /// Both versions stand: the pair's layout.
     Paired(Pair),
-    /// The old version is gone, with two steps of tidying left: still the pair's layout.
+    /// The old version is gone, with two steps of completing left: still the pair's layout.
     Left(Pair),
-    /// One step is left: the old columns that were lost and the mark are gone, the other places stand as they did.
+    /// One step is left of completing: the old columns that were lost and the mark are gone, the other places stand as they
+    /// did.
     Trimmed(Pair),
+    /// The new version is gone, with one step of rolling back left: still the pair's layout.
+    Returned(Pair),
 }
 
 impl Copying for Form {
@@ -33,6 +36,7 @@ impl Copying for Form {
             Form::Paired(pair) => Ok(Form::Paired(pair.copy(alloc)?)),
             Form::Left(pair) => Ok(Form::Left(pair.copy(alloc)?)),
             Form::Trimmed(pair) => Ok(Form::Trimmed(pair.copy(alloc)?)),
+            Form::Returned(pair) => Ok(Form::Returned(pair.copy(alloc)?)),
         }
     }
 }
@@ -85,6 +89,7 @@ pub fn halves_of(alloc: Global, form: &Form, values: &[Value]) -> Result<Halves,
         }
         Form::Left(pair) => Ok(alone(Side::Old, new_view(alloc, pair, values)?)),
         Form::Trimmed(pair) => Ok(alone(Side::Old, trimmed_view(alloc, &pair.lens, values)?)),
+        Form::Returned(pair) => Ok(alone(Side::Old, old_view(alloc, pair, values)?)),
     }
 }
 
@@ -98,6 +103,7 @@ pub fn misses_new(form: &Form, values: &[Value]) -> bool
         Form::Paired(pair) => is_marked(pair, values),
         Form::Left(_) => true,
         Form::Trimmed(_) => true,
+        Form::Returned(_) => true,
     }
 }
 
@@ -113,5 +119,9 @@ pub fn lost_of(alloc: Global, form: &Form, values: &[Value]) -> Result<u64, NoMe
             lost_weight(pair.lens.old_cols.as_slice(), old.as_slice())
         }
         Form::Trimmed(_) => Ok(0),
+        Form::Returned(pair) => {
+            let new = new_view(alloc, pair, values)?;
+            lost_weight(pair.lens.new_cols.as_slice(), new.as_slice())
+        }
     }
 }

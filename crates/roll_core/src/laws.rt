@@ -19,4 +19,5 @@ pub fn laws_below()
     phase_steps::laws::left_rows_show_what_was_written();
     phase_steps::laws::completing_changes_no_view();
     phase_steps::laws::rows_are_stored_by_the_step();
+    phase_steps::laws::returned_rows_show_what_was_written();
 }

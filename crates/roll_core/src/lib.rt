@@ -12,11 +12,14 @@ mod complete;
 mod engine;
 mod forms;
 mod laws;
+mod leaving;
 mod reach;
+mod rollback;
 mod start;
 mod statement;
 mod stepping;
 mod store;
+mod tidying;
 mod writing;
 
 pub use commands::Cmd;

@@ -8,7 +8,7 @@ use phase_steps::{trimmed, trimmed_view};
 use row_store::RowStore;
 use sql_base::{List, NoMemory, Value};
 use std::alloc::Global;
-use trigger_pair::begun;
+use trigger_pair::{begun, old_view};
 
 // The values that a step stores of a row. START leads to its form, and the other steps lead from it.
 fn stepped_values(alloc: Global, form: &Form, values: &[Value]) -> Result<List<Value>, NoMemory>
@@ -19,6 +19,7 @@ fn stepped_values(alloc: Global, form: &Form, values: &[Value]) -> Result<List<V
         Form::Paired(pair) => begun(alloc, pair, values),
         Form::Left(pair) => trimmed(alloc, &pair.lens, values),
         Form::Trimmed(pair) => trimmed_view(alloc, &pair.lens, values),
+        Form::Returned(pair) => old_view(alloc, pair, values),
     }
 }
 

@@ -10,7 +10,7 @@ use sql_base::{List, Name, NoMemory, Schema, Value};
 use std::alloc::Global;
 
 /// What is kept of a version that is gone, while steps of tidying are left: its name, its tables, what became of each of
-/// them, and until the second step of completing the rows of those that it had alone.
+/// them, and until the second step of completing or of rolling back the rows of those that it had alone.
 #[derive(Drop)]
 pub struct Former {
     /// Its name, without `public_`.
@@ -19,7 +19,7 @@ pub struct Former {
     pub schema: Schema,
     /// What became of each table, by its number.
     pub fates: List<(u32, Fate)>,
-    /// The tables that it had alone, as they are stored, until the second step of completing.
+    /// The tables that it had alone, as they are stored, until the second step of completing or of rolling back.
     pub tables: Vec<StoredTable>,
 }
 

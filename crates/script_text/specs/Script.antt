@@ -10,7 +10,7 @@ use Rattle.sql_base.specs.declared.faults.ScriptFault.TheVariants.{Line as BadLi
 use Rattle.script_text.specs.declared.lines.Line.{Line}
 use Rattle.script_text.specs.declared.lines.Line.TheVariants.{Text, Command}
 use Rattle.script_text.specs.declared.lines.Order.{Order}
-use Rattle.script_text.specs.declared.lines.Order.TheVariants.{Start, Batch, Fill, Complete}
+use Rattle.script_text.specs.declared.lines.Order.TheVariants.{Start, Batch, Fill, Complete, Rollback}
 use Rattle.script_text.specs.declared.lines.AnyCommand.{AnyCommand}
 use Rattle.script_text.specs.declared.lines.AnyCommand.TheVariants as command
 use Rattle.script_text.specs.declared.lines.AnyLine.{AnyLine}
@@ -38,7 +38,8 @@ batch_of digits = if is_count digits then Some (Batch (digits_value 10 digits)) 
 abbrev pub word_of : List ℕ → Option Order
 word_of line =
     if bytes_eq line (codes "\\fill") then Some Fill
-    else (if bytes_eq line (codes "\\complete") then Some Complete else None)
+    else (if bytes_eq line (codes "\\complete") then Some Complete
+    else (if bytes_eq line (codes "\\rollback") then Some Rollback else None))
 
 -- The command that a line is, of those that run. One blank, a space, stands behind `\start` and `\batch`.
 abbrev pub order_of : List ℕ → Option Order
@@ -48,11 +49,9 @@ order_of line =
     (option_map_or batch_of (behind (codes "\\batch ") line)
     (word_of line))
 
--- the commands that `exec` doesn't run yet
+-- the command that `exec` doesn't run yet
 abbrev pub further_of : List ℕ → Option AnyCommand
-further_of line =
-    if bytes_eq line (codes "\\rollback") then Some command.Rollback
-    else (if bytes_eq line (codes "\\status") then Some command.Status else None)
+further_of line = if bytes_eq line (codes "\\status") then Some command.Status else None
 
 -- The command that a line is, of all.
 abbrev pub command_of : List ℕ → Option AnyCommand

@@ -12,6 +12,8 @@ pub enum Order {
     Fill,
     /// `\complete`: the migration is to be completed.
     Complete,
+    /// `\rollback`: the migration is to be taken back.
+    Rollback,
 }
 
 /// A line that isn't passed by.
@@ -23,13 +25,11 @@ pub enum Line {
     Command(Order),
 }
 
-/// Any command, those too that `exec` doesn't run yet.
+/// Any command, that one too which `exec` doesn't run yet.
 #[derive(Debug, Drop)]
 pub enum AnyCommand {
     /// A command that runs.
     Order(Order),
-    /// `\rollback`: the migration is to be taken back.
-    Rollback,
     /// `\status`: how far the migration has come is to be told.
     Status,
 }

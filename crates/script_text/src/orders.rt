@@ -73,6 +73,8 @@ fn word_of(line: &[u8]) -> Option<Order>
         Some(Order::Fill)
     } else if line == b"\\complete".as_slice() {
         Some(Order::Complete)
+    } else if line == b"\\rollback".as_slice() {
+        Some(Order::Rollback)
     } else {
         None
     }
@@ -92,13 +94,11 @@ fn order_of(alloc: Global, line: &[u8]) -> Result<Option<Order>, NoMemory>
     }
 }
 
-// The command that a line is, of those that don't run yet.
+// The command that a line is, of those that don't run yet: `\status`.
 fn further_of(line: &[u8]) -> Option<AnyCommand>
     ensures { result ≡ spec.further_of line.now }
 {
-    if line == b"\\rollback".as_slice() {
-        Some(AnyCommand::Rollback)
-    } else if line == b"\\status".as_slice() {
+    if line == b"\\status".as_slice() {
         Some(AnyCommand::Status)
     } else {
         None

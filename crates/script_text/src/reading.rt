@@ -43,8 +43,8 @@ fn lines_of<L: LineForm>(alloc: Global, text: &[u8]) -> Result<List<L>, ScriptFa
 ///
 /// A line ends with a newline, which the last one may lack; a carriage return directly before a newline belongs to the
 /// line's end. Empty lines, lines of spaces alone and lines that begin with `--` are passed by. A line that begins with
-/// a backslash is a command: `\start TEXT` and `\batch N`, where N has 1 to 9 digits, each with one space, `\fill` and
-/// `\complete`. Every other line is a text. These rules are our own.
+/// a backslash is a command: `\start TEXT` and `\batch N`, where N has 1 to 9 digits, each with one space, `\fill`,
+/// `\complete` and `\rollback`. Every other line is a text. These rules are our own.
 ///
 /// `Line` comes exactly where a line begins with a backslash and is none of these commands, with the number of the
 /// first such line. Lines are counted from 1, and those that are passed by count.
@@ -58,7 +58,7 @@ pub fn read_exec(alloc: Global, text: &[u8]) -> Result<List<Line>, ScriptFault>
 
 /// The lines of an input that aren't passed by, in order: what each says, of all commands.
 ///
-/// The rules are those of `read_exec`, where `\rollback` and `\status` are commands too.
+/// The rules are those of `read_exec`, where `\status` is a command too.
 ///
 /// `Line` comes exactly where a line begins with a backslash and is no command, with the number of the first such line.
 pub fn read_any_lines(alloc: Global, text: &[u8]) -> Result<List<AnyLine>, ScriptFault>

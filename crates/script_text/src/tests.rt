@@ -55,6 +55,7 @@ fn push_order(alloc: Global, out: &mut String, order: &Order) -> Result<(), Fail
         Order::Batch(count) => out.push_str(format!(in alloc; "\\batch {count}")?.as_str())?,
         Order::Fill => out.push_str("\\fill")?,
         Order::Complete => out.push_str("\\complete")?,
+        Order::Rollback => out.push_str("\\rollback")?,
     }
     Ok(())
 }
@@ -62,7 +63,6 @@ fn push_order(alloc: Global, out: &mut String, order: &Order) -> Result<(), Fail
 fn push_command(alloc: Global, out: &mut String, command: &AnyCommand) -> Result<(), Fail> {
     match command {
         AnyCommand::Order(order) => push_order(alloc, out, order)?,
-        AnyCommand::Rollback => out.push_str("\\rollback")?,
         AnyCommand::Status => out.push_str("\\status")?,
     }
     Ok(())
@@ -144,10 +144,14 @@ fn scripts_read_or_name_their_first_bad_line(rt: HostRuntime) -> Result<(), Fail
 // Each text, how many lines it has where all commands are known, or its first bad line; and the same for the commands
 // that run.
 const INPUTS: [(&str, &str, &str); 4] = [
-    ("SELECT 1;\n\\fill\n--\n\\complete\n\r\n\r", "4", "4"),
+    (
+        "SELECT 1;\n\\fill\n--\n\\complete\n\\rollback\n\r\n\r",
+        "5",
+        "5",
+    ),
     ("a\n\n\\status\n", "2", "line 3"),
     ("\\status ", "line 1", "line 1"),
-    ("\\rollback\n\\roll", "line 2", "line 1"),
+    ("\\rollback\n\\roll", "line 2", "line 2"),
 ];
 
 fn count_shown(alloc: Global, count: Result<usize, ScriptFault>) -> Result<String, Fail> {

@@ -1,6 +1,6 @@
 //! Replies as text, as the program is to write them.
 use machine::{Kept, Reply, State};
-use mig_lens::{Member, Place, Refusal};
+use mig_lens::{Kind, Member, Place, Refusal};
 use sql_base::{Code, List, Name, NoMemory, Value};
 use std::alloc::Global;
 
@@ -144,6 +144,7 @@ fn push_refusal(alloc: Global, out: &mut Vec<u8>, refusal: &Refusal) -> Result<(
     match refusal {
         Refusal::AlreadyActive(name) => push_name(out, "REFUSED P1 ", name),
         Refusal::NoActive => push(out, "REFUSED P2\n"),
+        Refusal::Unfinished(Kind::Rollback) => push(out, "REFUSED P3 rollback\n"),
         Refusal::Unfinished(_) => push(out, "REFUSED P3 complete\n"),
         Refusal::NotFilled(table, key) => push_two(alloc, out, "REFUSED P4 ", table, *key),
         Refusal::NameTaken(name) => push_name(out, "REFUSED P6 ", name),
@@ -201,6 +202,7 @@ pub fn reply_text(alloc: Global, reply: &Reply) -> Result<Vec<u8>, NoMemory> {
         } => push_fill(alloc, &mut out, table, *count, *first, *last)?,
         Reply::Filled => push(&mut out, "FILLED\n")?,
         Reply::Complete(step) => push(&mut out, format!(in alloc; "COMPLETE {step}\n")?.as_str())?,
+        Reply::Rollback(step) => push(&mut out, format!(in alloc; "ROLLBACK {step}\n")?.as_str())?,
         Reply::Refused(refusal) => push_refusal(alloc, &mut out, refusal)?,
     }
     Ok(out)

@@ -6,6 +6,7 @@ pub enum Line<'a> {
     Start(&'a str),
     Batch(u32),
     Complete,
+    Rollback,
     Lost,
     Said(&'a str),
 }
@@ -20,13 +21,14 @@ pub fn line_of(line: &str) -> Line<'_> {
     }
     match line {
         "\\complete" => Line::Complete,
+        "\\rollback" => Line::Rollback,
         "\\lost" => Line::Lost,
         _ => Line::Said(line),
     }
 }
 
 /// The scripts, each with what it is answered. `\lost` is answered each row's key and its lost weight.
-pub const SCRIPTS: [(&str, &str); 24] = [
+pub const SCRIPTS: [(&str, &str); 27] = [
     (
         "\
 INSERT INTO users (id, name) VALUES (1, 'a')
@@ -208,12 +210,12 @@ SELECT
     (
         "\
 \\start {}
-\\start {\"name\":\"02\",\"operations\":[{\"drop_table\":{\"name\":\"users\"}}]}
+\\start {\"name\":\"02_c\"}
 \\start {\"name\":\"x\",\"name\":\"02_b\",\"operations\":[{\"add_column\":{\"table\":\"users\",\"column\":{\"name\":\"age\",\"type\":\"bigint\",\"nullable\":true}}}]}
 ",
         "\
 REFUSED P16 name
-REFUSED P16 operations[0]
+REFUSED P16 operations
 START public_02_b
 ",
     ),
@@ -480,7 +482,6 @@ INSERT INTO users (id, name) VALUES (1, 'a')
 \\start {\"name\":\"02_age\",\"operations\":[{\"add_column\":{\"table\":\"users\",\"column\":{\"name\":\"age\",\"type\":\"bigint\",\"pk\":true}}}]}
 \\start {\"name\":\"02_age\",\"operations\":[{\"add_column\":{\"table\":\"users\",\"column\":{\"name\":\"age\",\"type\":\"bigint\"}}}]}
 \\start {\"name\":\"02_age\",\"operations\":[{\"add_column\":{\"table\":\"users\",\"column\":{\"name\":\"age\",\"type\":\"bigint\",\"default\":\"'x'\"}}}]}
-\\start {\"name\":\"02_age\",\"operations\":[{\"add_column\":{\"table\":\"users\",\"column\":{\"name\":\"age\",\"type\":\"bigint\",\"nullable\":true}}},{\"drop_table\":{\"name\":\"users\"}}]}
 \\start {\"name\":\"02_age\",\"operations\":[{\"add_column\":{\"table\":\"users\",\"column\":{\"name\":\"age\",\"type\":\"bigint\",\"default\":\"0\",\"check\":{\"name\":\"age_pos\",\"constraint\":\"age > 0\"}}}}]}
 INSERT INTO users (id, name) VALUES (2, 'b')
 \\complete
@@ -494,7 +495,6 @@ INSERT 0 1
 REFUSED P10 users
 REFUSED P12 users age
 REFUSED P15 operations[0].default
-REFUSED P16 operations[1]
 START public_02_age
 ERROR 23514 age_pos 2
 REFUSED P5 age_pos 1
@@ -622,7 +622,7 @@ INSERT INTO people (id, name, age) VALUES (1, 'ann', '37'), (2, 'bob', '5')
 \\complete
 \\complete
 \\complete
-\\start {\"name\":\"02_tidy\",\"operations\":[{\"rename_column\":{\"table\":\"people\",\"from\":\"name\",\"to\":\"full_name\"}},{\"drop_column\":{\"table\":\"people\",\"column\":\"age\",\"down\":\"'0'\"}}]}
+\\start {\"name\":\"02_tidy\",\"operations\":[{\"rename_column\":{\"table\":\"people\",\"from\":\"name\",\"to\":\"full_name\"}},{\"create_constraint\":{\"table\":\"people\",\"name\":\"name_some\",\"type\":\"check\",\"columns\":[\"full_name\"],\"check\":\"length(full_name) > 0\"}},{\"drop_column\":{\"table\":\"people\",\"column\":\"age\",\"down\":\"'0'\"}}]}
 \\batch 9
 SET search_path TO public_02_tidy
 INSERT INTO people (id, full_name) VALUES (5, 'eve')
@@ -632,6 +632,7 @@ SELECT age FROM people
 SET search_path TO public_01_people
 SELECT full_name FROM people
 SELECT * FROM people
+INSERT INTO people (id, name, age) VALUES (6, '', '1')
 ",
         "\
 START public_01_people
@@ -656,6 +657,7 @@ SELECT
   1|ann b|0
   2|bob|5
   5|eve|0
+ERROR 23514 name_some 6
 ",
     ),
     (
@@ -706,6 +708,102 @@ LOST
   1|5
   5|1
   6|1
+",
+    ),
+    (
+        "\
+INSERT INTO users (id, name) VALUES (1, 'a'), (2, 'b'), (3, 'c')
+\\start {\"name\":\"02_pos\",\"operations\":[{\"add_column\":{\"table\":\"users\",\"column\":{\"name\":\"age\",\"type\":\"bigint\",\"default\":\"0\",\"check\":{\"name\":\"age_pos\",\"constraint\":\"age > 0\"}}}}]}
+INSERT INTO users (id, name) VALUES (4, 'd')
+\\batch 1000
+\\complete
+\\rollback
+\\rollback
+SELECT * FROM users
+\\rollback
+",
+        "\
+INSERT 0 3
+START public_02_pos
+ERROR 23514 age_pos 4
+FILLED
+REFUSED P5 age_pos 1
+ROLLBACK 1
+ROLLBACK 2
+SELECT
+  1|a
+  2|b
+  3|c
+REFUSED P2
+",
+    ),
+    (
+        "\
+INSERT INTO users (id, name) VALUES (1, 'a'), (2, 'a'), (3, 'b'), (4, 'c')
+\\start {\"name\":\"02_code\",\"operations\":[{\"add_column\":{\"table\":\"users\",\"column\":{\"name\":\"code\",\"type\":\"text\",\"nullable\":true,\"unique\":true},\"up\":\"CASE WHEN name = 'a' THEN NULL ELSE 'x' END\"}}]}
+\\batch 10
+\\batch 3
+\\batch 3
+",
+        "\
+INSERT 0 4
+START public_02_code
+REFUSED P19 users 3 23505
+FILL users 3 1 3
+REFUSED P19 users 4 23505
+",
+    ),
+    (
+        "\
+INSERT INTO users (id, name) VALUES (1, 'a'), (2, 'b')
+\\start {\"name\":\"02_add_age\",\"operations\":[{\"add_column\":{\"table\":\"users\",\"column\":{\"name\":\"age\",\"type\":\"bigint\",\"nullable\":true},\"up\":\"0\"}}]}
+\\batch 1
+UPDATE users SET name = 'aa' WHERE id = 1
+\\rollback
+\\lost
+INSERT INTO users (id, name) VALUES (3, 'c')
+\\lost
+\\complete
+\\batch 1
+\\start {\"name\":\"02_add_age\",\"operations\":[{\"add_column\":{\"table\":\"users\",\"column\":{\"name\":\"age\",\"type\":\"bigint\",\"nullable\":true},\"up\":\"0\"}}]}
+SET search_path TO public_02_add_age
+SELECT * FROM users
+\\rollback
+\\lost
+SET search_path TO public_01_users
+SELECT * FROM users
+\\start {\"name\":\"02_add_age\",\"operations\":[{\"add_column\":{\"table\":\"users\",\"column\":{\"name\":\"age\",\"type\":\"bigint\",\"nullable\":true},\"up\":\"0\"}}]}
+",
+        "\
+INSERT 0 2
+START public_02_add_age
+FILL users 1 1 1
+UPDATE 1
+ROLLBACK 1
+LOST
+  1|9
+  2|1
+INSERT 0 1
+LOST
+  1|9
+  2|1
+  3|1
+REFUSED P3 rollback
+REFUSED P3 rollback
+REFUSED P3 rollback
+SET
+ERROR 42P01 users -
+ROLLBACK 2
+LOST
+  1|0
+  2|0
+  3|0
+SET
+SELECT
+  1|aa
+  2|b
+  3|c
+START public_02_add_age
 ",
     ),
     ("\n", ""),

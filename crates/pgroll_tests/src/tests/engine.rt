@@ -1,6 +1,7 @@
 // What the engine answers by calls: through paths, and beyond what a short input can say.
 use crate::tests::statements::{NULL, Said, VERSION, Wanted, comes_to, is_replied, reply_to};
 use machine::Reply;
+use mig_lens::Kind;
 use roll_core::Core;
 use sql_base::{Code, Copying, NoMemory};
 use std::alloc::Global;
@@ -425,6 +426,73 @@ pub const NULLS: &[Row] = &[
     (Said::Complete, Wanted::Completed(3), NO_TABLE, UNFILLED),
 ];
 
+const RENAME: &str = "UPDATE users SET name = 'x' WHERE id = 2";
+
+const RENAME_AGAIN: &str = "UPDATE users SET name = 'y' WHERE id = 2";
+
+const B_C: Wanted = Wanted::Shown(&[(1, "b"), (2, "c")]);
+
+const B_X: Wanted = Wanted::Shown(&[(1, "b"), (2, "x")]);
+
+const B_Y: Wanted = Wanted::Shown(&[(1, "b"), (2, "y")]);
+
+const UNFILLED_N: Wanted = Wanted::Shown(&[(1, NULL), (2, "n")]);
+
+const UNFILLED_X: Wanted = Wanted::Shown(&[(1, NULL), (2, "x")]);
+
+const UNFILLED_TWO: Wanted = Wanted::Shown(&[(1, NULL), (2, NULL)]);
+
+/// One that is rolled back, which writes through both versions before and through the old one between the two steps. What
+/// was written stays, and the row that wasn't filled is no reason to refuse it.
+pub const BACK: &[Row] = &[
+    (Said::Line(PATH, OTHER), Wanted::Written, B, NO_TABLE),
+    (Said::RollBack, Wanted::Inactive, B, NO_TABLE),
+    (Said::Start, Wanted::Started, B, UNFILLED),
+    (Said::Line(NEW, TWO), Wanted::Written, B_C, UNFILLED_N),
+    (
+        Said::Line(PATH, RENAME),
+        Wanted::Updated(1),
+        B_X,
+        UNFILLED_X,
+    ),
+    (Said::RollBack, Wanted::RolledBack(1), B_X, NO_TABLE),
+    (
+        Said::Complete,
+        Wanted::Unfinished(Kind::Rollback),
+        B_X,
+        NO_TABLE,
+    ),
+    (
+        Said::Start,
+        Wanted::Unfinished(Kind::Rollback),
+        B_X,
+        NO_TABLE,
+    ),
+    (
+        Said::Batch,
+        Wanted::Unfinished(Kind::Rollback),
+        B_X,
+        NO_TABLE,
+    ),
+    (
+        Said::Line(PATH, RENAME_AGAIN),
+        Wanted::Updated(1),
+        B_Y,
+        NO_TABLE,
+    ),
+    (Said::RollBack, Wanted::RolledBack(2), B_Y, NO_TABLE),
+    (Said::RollBack, Wanted::Inactive, B_Y, NO_TABLE),
+    (Said::Start, Wanted::Started, B_Y, UNFILLED_TWO),
+    (Said::Batch, Wanted::Filled(2), B_Y, B_Y),
+    (Said::Complete, Wanted::Completed(1), NO_TABLE, B_Y),
+    (
+        Said::RollBack,
+        Wanted::Unfinished(Kind::Complete),
+        NO_TABLE,
+        B_Y,
+    ),
+];
+
 /// Whether the two versions show this of the table.
 pub fn shows(alloc: Global, core: &mut Core, old: Wanted, new: Wanted) -> Result<bool, NoMemory> {
     Ok(
@@ -530,6 +598,12 @@ fn rows_are_written_after_one_step(rt: HostRuntime) -> Result<(), Fail> {
 #[test]
 fn rows_are_written_after_two_steps(rt: HostRuntime) -> Result<(), Fail> {
     assert_eq!(rt; first_wrong(rt.alloc(), AFTER_TWO)?, None);
+    Ok(())
+}
+
+#[test]
+fn a_migration_is_rolled_back(rt: HostRuntime) -> Result<(), Fail> {
+    assert_eq!(rt; first_wrong(rt.alloc(), BACK)?, None);
     Ok(())
 }
 

@@ -1,6 +1,6 @@
 // Statements of a test, what they have to come to, and whether a reply is that.
 use machine::{Asked, Reply};
-use mig_lens::{ColumnDef, Migration, Op, Refusal};
+use mig_lens::{ColumnDef, Kind, Migration, Op, Refusal};
 use roll_core::{Cmd, Core};
 use sql_base::{Code, Expr, Items, List, Name, NoMemory, SqlText, Stmt, Ty, Value};
 use sql_parse::{ParseFault, parse_stmt};
@@ -30,6 +30,8 @@ pub enum Said {
     Batch,
     /// A step of completing.
     Complete,
+    /// A step of rolling back.
+    RollBack,
 }
 
 /// What it has to come to.
@@ -57,6 +59,10 @@ pub enum Wanted {
     Filled(u32),
     /// This step of completing is done.
     Completed(u8),
+    /// This step of rolling back is done.
+    RolledBack(u8),
+    /// It is refused, since steps of this kind are left.
+    Unfinished(Kind),
     /// It isn't completed, since a row is still to be filled: that of the key 1.
     NotFilled,
     /// No migration is active.
@@ -221,6 +227,7 @@ pub fn reply_to(alloc: Global, core: &mut Core, said: Said) -> Result<Option<Rep
         Said::Constant => start(alloc, core, None),
         Said::Batch => Ok(Some(core.batch(2))),
         Said::Complete => Ok(Some(core.ddl(&Cmd::Complete)?)),
+        Said::RollBack => Ok(Some(core.ddl(&Cmd::Rollback)?)),
     }
 }
 
@@ -252,6 +259,15 @@ fn are_rows(rows: &[List<Value>], wanted: &[(i64, &str)]) -> bool {
     true
 }
 
+fn is_kind(kind: Kind, wanted: Kind) -> bool {
+    matches!(
+        (kind, wanted),
+        (Kind::Nothing, Kind::Nothing)
+            | (Kind::Complete, Kind::Complete)
+            | (Kind::Rollback, Kind::Rollback)
+    )
+}
+
 /// Whether a reply is what is wanted.
 pub fn is_wanted(reply: &Reply, wanted: Wanted) -> bool {
     match (reply, wanted) {
@@ -268,6 +284,10 @@ pub fn is_wanted(reply: &Reply, wanted: Wanted) -> bool {
         (Reply::Fill { count, .. }, Wanted::Filled(wanted)) => *count == wanted,
         (Reply::Filled, Wanted::Filled(wanted)) => wanted == 0,
         (Reply::Complete(step), Wanted::Completed(wanted)) => *step == wanted,
+        (Reply::Rollback(step), Wanted::RolledBack(wanted)) => *step == wanted,
+        (Reply::Refused(Refusal::Unfinished(kind)), Wanted::Unfinished(wanted)) => {
+            is_kind(*kind, wanted)
+        }
         (Reply::Refused(Refusal::NoActive), Wanted::Inactive) => true,
         (Reply::Refused(Refusal::NotFilled(table, key)), Wanted::NotFilled) => {
             table.as_slice() == b"users".as_slice() && *key == 1

@@ -3,8 +3,8 @@
 // pass with ample memory too; `rt try --test --fail-alloc N` runs them with the allocation of number N refused in each.
 use crate::tests::calls::{Told, call};
 use crate::tests::engine::{
-    AFTER_ONE, AFTER_TWO, CHANGED, EARLY, FILLED, LISTED, NEW_WRITE, NO_TABLE, NULLS, OLD_WRITE,
-    REFUSED, Row, STEPS, WRITTEN, shows,
+    AFTER_ONE, AFTER_TWO, BACK, CHANGED, EARLY, FILLED, LISTED, NEW_WRITE, NO_TABLE, NULLS,
+    OLD_WRITE, REFUSED, Row, STEPS, WRITTEN, shows,
 };
 use crate::tests::statements::{Wanted, comes_to, is_replied, reply_to};
 use machine::Reply;
@@ -251,6 +251,11 @@ fn rows_after_one_step_tell_want_of_memory(rt: HostRuntime) {
 #[test]
 fn rows_after_two_steps_tell_want_of_memory(rt: HostRuntime) {
     assert!(rt; none_wrong(rt.alloc(), AFTER_TWO));
+}
+
+#[test]
+fn a_rollback_tells_want_of_memory(rt: HostRuntime) {
+    assert!(rt; none_wrong(rt.alloc(), BACK));
 }
 
 #[test]

@@ -30,4 +30,8 @@ returns c = record {
   filled = c.rows_are_stored_by_the_step.ensures.left;
   trims = c.completing_changes_no_view.ensures.trimmed;
   trimmed = c.rows_are_stored_by_the_step.ensures.trimmed;
+  returned = c.returned_rows_show_what_was_written.ensures.shown;
+  returned_kept = c.returned_rows_show_what_was_written.ensures.kept;
+  still_returned = c.returned_rows_show_what_was_written.ensures.begun;
+  returned_long = c.returned_rows_show_what_was_written.ensures.long;
 }
