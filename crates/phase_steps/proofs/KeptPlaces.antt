@@ -16,9 +16,9 @@ use Rattle.mig_lens.specs.Lens.{is_carry}
 use Rattle.trigger_pair.specs.declared.pairs.Pair.{Pair}
 use Rattle.trigger_pair.specs.Laws.{IsPair, PairsAreLong}
 use Rattle.trigger_pair.specs.Stored.{new_view, old_view, places}
-use Rattle.phase_steps.specs.Laws.{KeepsPlaces, PlacesAreTheLayouts, Selects}
+use Rattle.phase_steps.specs.Laws.{KeepsPlaces, PlacesAreTheLayouts, Selects, TrimmedPlacesAreTheColumns}
 use Rattle.phase_steps.specs.Places.{Own, Place, Shadow, carried_places, completed_places, mark_places, named, new_place, old_places, paired_places, rolled_back_places, shadow_named, shadow_places, trimmed_row_places, value_in}
-use Rattle.phase_steps.specs.Rows.{carried_before, carried_values, is_shadow, shadows_in, trimmed_places}
+use Rattle.phase_steps.specs.Rows.{carried_before, carried_columns, carried_values, is_shadow, shadows_in, trimmed_places}
 use Rattle.phase_steps.proofs.WrittenRows.{carried_cell, carry_carries}
 
 -- ---- places of these cells, the first of which has this number
@@ -316,6 +316,17 @@ shadows_named pair at (Still x ∷ cells) (c ∷ cs) len from =
     let there = shadows_named pair (at + 1) cells cs (omega arith) (from_rest pair.new.columns at c cs from) in
     rw (here, there) refl
 
+carried_named : (pair : Pair) (at : ℕ) (cells : List Cell) (columns : List Column) → length cells ≡ length columns → From pair.old.columns at columns → map (named pair) (carried_from at cells) ≡ map Some (carried_columns columns cells)
+carried_named pair at [] [] len from = refl
+carried_named pair at [] (c ∷ cs) len from = absurd (omega arith)
+carried_named pair at (cell ∷ cells) [] len from = absurd (omega arith)
+carried_named pair at (Carry j ∷ cells) (c ∷ cs) len from =
+    let here = ap (option_map place_of) (from_first pair.old.columns at c cs from) in
+    let there = carried_named pair (at + 1) cells cs (omega arith) (from_rest pair.old.columns at c cs from) in
+    rw (here, there) refl
+carried_named pair at (Make up ∷ cells) (c ∷ cs) len from = carried_named pair (at + 1) cells cs (omega arith) (from_rest pair.old.columns at c cs from)
+carried_named pair at (Still x ∷ cells) (c ∷ cs) len from = carried_named pair (at + 1) cells cs (omega arith) (from_rest pair.old.columns at c cs from)
+
 mark_named : (pair : Pair) (mark : Bool) → map (named pair) (mark_places mark) ≡ map Some (mark_place mark)
 mark_named pair true = refl
 mark_named pair false = refl
@@ -335,3 +346,15 @@ places_are_the_layouts lengths pair p =
     ∙ ap (λ xs. map Some own ++ xs) behind
     ∙ sym (map-append Some own (more ++ mark_place mark))
     ∙ ap (map Some) (sym (append_assoc own more (mark_place mark)) ∙ columns)
+
+pub trimmed_places_are_the_columns : PairsAreLong → TrimmedPlacesAreTheColumns
+trimmed_places_are_the_columns lengths pair p =
+    let lens = pair.lens in
+    let own = carried_columns pair.old.columns lens.old_cols in
+    let more = shadows pair.new.columns lens.new_cols in
+    let old = carried_named pair 0 lens.old_cols pair.old.columns (lengths pair p).0 (λ i. ap (slice_get pair.old.columns) (zero-add i)) in
+    let new = shadows_named pair 0 lens.new_cols pair.new.columns (lengths pair p).1 (λ i. ap (slice_get pair.new.columns) (zero-add i)) in
+    map-append (named pair) (carried_places lens.old_cols) (shadow_places lens.new_cols)
+    ∙ ap (λ xs. xs ++ map (named pair) (shadow_places lens.new_cols)) old
+    ∙ ap (λ xs. map Some own ++ xs) new
+    ∙ sym (map-append Some own more)

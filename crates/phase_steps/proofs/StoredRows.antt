@@ -1,36 +1,82 @@
 -- Which rows are stored after a step.
-use Rattle.std.proofs.Common.{◌≡◌, ◌∙◌, ℕ, zero, suc, ◌+◌, List, [], ◌∷◌, ◌++◌, true, false, Option, Some, None, length, map, append_assoc, length-append, unwrap_or, ap, refl, sym, subst, arith}
+use Rattle.std.proofs.Common.{◌≡◌, ◌∙◌, ⊎_elim, ℕ, ◌+◌, List, [], ◌∷◌, ◌++◌, Bool, true, false, Option, Some, None, length, map, append-nil, append_assoc, length-append, unwrap_or, ap, refl, sym, subst, arith}
 use Rattle.std.specs.List.{enumerate_from}
-use Rattle.std.specs.Prelude.{filter, slice_get, slice_index_or}
-use Rattle.std.proofs.lemmas.Bool.Decides.{nat_tests}
+use Rattle.std.specs.Prelude.{filter, slice_index_or}
 use Rattle.std.proofs.lemmas.List.{drop_at, take_at}
 use Rattle.sql_base.specs.declared.shapes.Column.{Column}
-use Rattle.sql_base.specs.declared.values.Ty.{Ty}
 use Rattle.sql_base.specs.declared.values.Value.{Value}
 use Rattle.sql_base.specs.declared.values.Value.TheVariants.{Null}
 use Rattle.sql_base.specs.Fit.{fits_columns, has_type}
 use Rattle.sql_base.specs.Laws.{all_true, both, columns_fit, columns_long}
-use Rattle.sql_eval.specs.Typing.{same}
 use Rattle.mig_lens.specs.declared.columns.Cell.{Cell}
 use Rattle.mig_lens.specs.declared.columns.Cell.TheVariants.{Carry, Make, Still}
-use Rattle.mig_lens.specs.Layout.{has_mark}
-use Rattle.mig_lens.specs.Lens.{cell_fits, cells_fit, is_of_type}
+use Rattle.mig_lens.specs.Layout.{has_mark, shadows}
+use Rattle.mig_lens.specs.Lens.{cell_fits, cells_fit, unfilled, unfilled_value}
 use Rattle.trigger_pair.specs.declared.pairs.Pair.{Pair}
-use Rattle.trigger_pair.specs.Stored.{mark_value, shadow_values}
-use Rattle.trigger_pair.specs.Laws.{PairsAreLong}
-use Rattle.phase_steps.specs.Laws.{FilledBefore, LeftRowsAreFilled, TrimmingLeavesTrimmed}
-use Rattle.phase_steps.specs.Rows.{carried_of, carried_values, is_shadow, left_value, left_values, trimmed}
+use Rattle.trigger_pair.specs.Laws.{IsPair, PairsAreLong}
+use Rattle.trigger_pair.specs.Rows.{IsFilledRow, IsUnfilledRow}
+use Rattle.trigger_pair.specs.Stored.{mark_value, shadow_values, stored_row}
+use Rattle.phase_steps.specs.Laws.{LaidBefore, LeftRowsAreFilled, LeftRowsAreLaid, PairedRowsAreLaid, TrimmingLeavesTrimmed}
+use Rattle.phase_steps.specs.Rows.{IsLaidRow, carried_columns, carried_of, carried_values, fits_places, is_shadow, left_row, left_value, left_values, trimmed, trimmed_columns}
+use Rattle.phase_steps.proofs.PlacedValues.{carried_placed, carried_type, laid_parts, mark_placed, parts_are_laid, places_joined, places_long, shadows_count, shadows_placed}
+use Rattle.phase_steps.proofs.ShownRows.{new_cells_fit}
+
+-- ---- rows of both versions
+
+-- The stored row of two halves is a row of the layout.
+of_is_laid : (pair : Pair) (old new : List Value) (marked : Bool) → IsPair pair
+    → fits_columns pair.old.columns old ≡ true → fits_columns pair.new.columns new ≡ true
+    → IsLaidRow pair (stored_row pair old new marked)
+of_is_laid pair old new marked p old_fits new_fits =
+    let shadow = shadow_values pair.lens.new_cols new in
+    let mark : pair.layout.mark ≡ has_mark pair.lens = ap (λ l. l.mark) p.layout in
+    parts_are_laid pair (stored_row pair old new marked) p (record {
+      old = old;
+      shadow = shadow;
+      mark = mark_value (has_mark pair.lens) marked;
+      old_fits = old_fits;
+      shadow_fits = shadows_placed pair.new.columns pair.lens.new_cols new new_fits;
+      mark_fits = mark_placed (has_mark pair.lens) marked;
+      is = ap (λ m. old ++ shadow ++ mark_value m marked) mark
+          ∙ append_assoc old shadow (mark_value (has_mark pair.lens) marked);
+    })
+
+filled_is_laid : (pair : Pair) (stored : List Value) → IsPair pair → IsFilledRow pair stored → IsLaidRow pair stored
+filled_is_laid pair stored p row = ap (fits_places pair.layout.columns) row.is
+    ∙ of_is_laid pair row.old row.new false p row.old_fits row.new_fits
+
+unfilled_type : (others : List Column) (column : Column) (old : List Value) (cell : Cell)
+    → fits_columns others old ≡ true → cell_fits others column cell ≡ true
+    → has_type (Some column.ty) (unfilled_value old cell) ≡ true
+unfilled_type others column old (Carry at) f c =
+    ap (λ values. has_type (Some column.ty) (slice_index_or values at Null)) (sym (append-nil old))
+    ∙ carried_type column.ty others old [] at f c
+unfilled_type others column old (Make up) f c = refl
+unfilled_type others column old (Still x) f c = c
+
+unfilled_fits : (others columns : List Column) (old : List Value) (cells : List Cell) → fits_columns others old ≡ true
+    → cells_fit others columns cells ≡ true → fits_columns columns (map (unfilled_value old) cells) ≡ true
+unfilled_fits others [] old [] f c = refl
+unfilled_fits others [] old (cell ∷ cells) f c = cc
+unfilled_fits others (column ∷ columns) old [] f c = cc
+unfilled_fits others (column ∷ columns) old (cell ∷ cells) f c =
+    let parts = both (cell_fits others column cell) (cells_fit others columns cells) c in
+    let here = unfilled_type others column old cell f parts.0 in
+    let there = unfilled_fits others columns old cells f parts.1 in
+    all_true (has_type (Some column.ty) (unfilled_value old cell))
+    (fits_columns columns (map (unfilled_value old) cells)) here there
+
+unfilled_is_laid : (pair : Pair) (stored : List Value) → IsPair pair → IsUnfilledRow pair stored → IsLaidRow pair stored
+unfilled_is_laid pair stored p row =
+    let new_fits =
+    unfilled_fits pair.old.columns pair.new.columns row.old pair.lens.new_cols row.fits (new_cells_fit pair p) in
+    ap (fits_places pair.layout.columns) row.is
+    ∙ of_is_laid pair row.old (unfilled pair.lens row.old) true p row.fits new_fits
+
+pub paired_rows_are_laid : PairedRowsAreLaid
+paired_rows_are_laid pair stored p row = ⊎_elim (filled_is_laid pair stored p) (unfilled_is_laid pair stored p) row
 
 -- ---- rows that are written between C1 and C2
-
-same_type : (a b : Ty) (v : Value) → same a b ≡ true → has_type (Some b) v ≡ true → has_type (Some a) v ≡ true
-same_type a b v s h = grind (arith, nat_tests)
-
-pub carried_type : (ty : Ty) (others : List Column) (values : List Value) (at : ℕ) → fits_columns others values ≡ true → is_of_type ty (slice_get others at) ≡ true → has_type (Some ty) (slice_index_or values at Null) ≡ true
-carried_type ty [] values at f t = cc
-carried_type ty (c ∷ cs) [] at f t = cc
-carried_type ty (c ∷ cs) (v ∷ vs) zero f t = same_type ty c.ty v t (both (has_type (Some c.ty) v) (fits_columns cs vs) f).0
-carried_type ty (c ∷ cs) (v ∷ vs) (suc at) f t = carried_type ty cs vs at (both (has_type (Some c.ty) v) (fits_columns cs vs) f).1 t
 
 -- What was held has the columns' types, from this place on.
 abbrev HeldFits : ℕ → List Column → List Value → Type 0
@@ -56,7 +102,9 @@ old_held front (column ∷ columns) (v ∷ old) behind f =
     (ap (has_type (Some column.ty)) (value_of front (old ++ behind) v) ∙ parts.0, subst (λ n. HeldFits n columns (front ++ (v ∷ (old ++ behind)))) more moved)
 
 left_type : (others : List Column) (column : Column) (values held : List Value) (k : ℕ) (cell : Cell) → fits_columns others values ≡ true → has_type (Some column.ty) (slice_index_or held k Null) ≡ true → cell_fits others column cell ≡ true → has_type (Some column.ty) (left_value values held (k, cell)) ≡ true
-left_type others column values held k (Carry at) f h c = carried_type column.ty others values at f c
+left_type others column values held k (Carry at) f h c =
+    ap (λ row. has_type (Some column.ty) (slice_index_or row at Null)) (sym (append-nil values))
+    ∙ carried_type column.ty others values [] at f c
 left_type others column values held k (Make up) f h c = h
 left_type others column values held k (Still x) f h c = h
 
@@ -68,11 +116,13 @@ left_fits others (column ∷ columns) values held k (cell ∷ cells) f h c =
     let parts = both (cell_fits others column cell) (cells_fit others columns cells) c in
     all_true (has_type (Some column.ty) (left_value values held (k, cell))) (fits_columns columns (map (left_value values held) (enumerate_from (k + 1) cells))) (left_type others column values held k cell f h.0 parts.0) (left_fits others columns values held (k + 1) cells f h.1 parts.1)
 
-before_held : (pair : Pair) (before : Option (List Value)) → FilledBefore pair before → HeldFits 0 pair.old.columns (unwrap_or before [])
-before_held pair None h = nothing_held 0 pair.old.columns
-before_held pair (Some stored) h =
-    let behind : List Value = shadow_values pair.lens.new_cols h.new ++ mark_value pair.layout.mark false in
-    subst (HeldFits 0 pair.old.columns) (sym (append_assoc h.old (shadow_values pair.lens.new_cols h.new) (mark_value pair.layout.mark false)) ∙ sym h.is) (old_held [] pair.old.columns h.old behind h.old_fits)
+before_held : (pair : Pair) (before : Option (List Value)) → IsPair pair → LaidBefore pair before
+    → HeldFits 0 pair.old.columns (unwrap_or before [])
+before_held pair None p h = nothing_held 0 pair.old.columns
+before_held pair (Some stored) p h =
+    let parts = laid_parts pair stored p h in
+    subst (HeldFits 0 pair.old.columns) (sym parts.is)
+    (old_held [] pair.old.columns parts.old (parts.shadow ++ parts.mark) parts.old_fits)
 
 pub left_rows_are_filled : LeftRowsAreFilled
 left_rows_are_filled pair values before p fit was =
@@ -84,10 +134,16 @@ left_rows_are_filled pair values before p fit was =
     record {
       old = old;
       new = values;
-      old_fits = left_fits pair.new.columns pair.old.columns values held 0 pair.lens.old_cols new_fits (before_held pair before was) cells.1;
+      old_fits =
+          left_fits pair.new.columns pair.old.columns values held 0 pair.lens.old_cols new_fits
+          (before_held pair before p was) cells.1;
       new_fits = new_fits;
       is = ap (λ m. old ++ shadow_values pair.lens.new_cols values ++ mark_value m false) (sym mark);
     }
+
+pub left_rows_are_laid : LeftRowsAreLaid
+left_rows_are_laid pair values before p fit was =
+    filled_is_laid pair (left_row pair.lens values before) p (left_rows_are_filled pair values before p fit was)
 
 -- ---- rows after C2
 
@@ -96,28 +152,21 @@ carried_of_old [] old tail e = refl
 carried_of_old (cell ∷ cells) [] tail e = absurd (omega arith)
 carried_of_old (cell ∷ cells) (v ∷ old) tail e = ap (λ rest. carried_of cell v ++ rest) (carried_of_old cells old tail (omega arith))
 
-shadows_counted : (cells : List Cell) (new : List Value) → length new ≡ length cells → length (shadow_values cells new) ≡ length (filter is_shadow cells)
-shadows_counted [] new e = refl
-shadows_counted (cell ∷ cells) [] e = absurd (omega arith)
-shadows_counted (Carry at ∷ cells) (v ∷ new) e = shadows_counted cells new (omega arith)
-shadows_counted (Make up ∷ cells) (v ∷ new) e = ap suc (shadows_counted cells new (omega arith))
-shadows_counted (Still x ∷ cells) (v ∷ new) e = ap suc (shadows_counted cells new (omega arith))
-
 pub trimming_leaves_trimmed : PairsAreLong → TrimmingLeavesTrimmed
-trimming_leaves_trimmed long pair stored p row =
+trimming_leaves_trimmed lengths pair stored p laid =
     let lens = pair.lens in
-    let shadow = shadow_values lens.new_cols row.new in
-    let mark = mark_value pair.layout.mark false in
-    let old_as_long = columns_long pair.old.columns row.old row.old_fits ∙ sym (long pair p).0 in
-    let new_as_long = columns_long pair.new.columns row.new row.new_fits ∙ sym (long pair p).1 in
-    let joined : stored ≡ row.old ++ (shadow ++ mark) = row.is ∙ append_assoc row.old shadow mark in
-    let carried = carried_of_old lens.old_cols row.old (shadow ++ mark) old_as_long in
-    let behind = drop_at row.old (shadow ++ mark) (length lens.old_cols) old_as_long in
-    let shadows = take_at shadow mark (length (filter is_shadow lens.new_cols)) (shadows_counted lens.new_cols row.new new_as_long) in
-    record {
-      old = row.old;
-      new = row.new;
-      old_fits = row.old_fits;
-      new_fits = row.new_fits;
-      is = ap (trimmed lens) joined ∙ rw (carried, behind, shadows) refl;
-    }
+    let parts = laid_parts pair stored p laid in
+    let behind = parts.shadow ++ parts.mark in
+    let own_places = carried_columns pair.old.columns lens.old_cols in
+    let shadow_places = shadows pair.new.columns lens.new_cols in
+    let old_long = columns_long pair.old.columns parts.old parts.old_fits ∙ sym (lengths pair p).0 in
+    let shadow_long = places_long shadow_places parts.shadow parts.shadow_fits
+    ∙ shadows_count pair.new.columns lens.new_cols (lengths pair p).1 in
+    let carried = carried_of_old lens.old_cols parts.old behind old_long in
+    let dropped = drop_at parts.old behind (length lens.old_cols) old_long in
+    let taken = take_at parts.shadow parts.mark (length (filter is_shadow lens.new_cols)) shadow_long in
+    let is : trimmed lens stored ≡ carried_values lens.old_cols parts.old ++ parts.shadow = ap (trimmed lens) parts.is
+    ∙ rw (carried, dropped, taken) refl in
+    ap (fits_places (trimmed_columns pair)) is
+    ∙ places_joined own_places shadow_places (carried_values lens.old_cols parts.old) parts.shadow
+    (carried_placed pair.old.columns lens.old_cols parts.old parts.old_fits) parts.shadow_fits

@@ -1,22 +1,56 @@
 -- What becomes of the stored rows of a table that both versions have, step by step from START until one version stands alone.
 --
 -- A migration begins with START. From then on both versions stand, and a row is stored as the triggers leave it. It is completed in three steps: C1 drops the old version's views, C2 removes the places that only the old version showed, and C3 puts the places in the order of the new version's columns. It is rolled back in two: B1 drops the new version's views, and B2 removes the places that only the new version showed. Between two steps rows are written by the version that stands. That completing removes the old columns, and that rolling back removes the new ones, is pgroll's (its documentation, How pgroll works); the steps and the rest are our own.
-use Rattle.std.specs.Prelude.{ℕ, ◌+◌, Bool, ◌==◌, false, true, List, [], ◌∷◌, ◌++◌, Option, Some, None, drop, filter, length, map, slice_index_or, take, unwrap_or, if◌then◌else◌}
+use Rattle.std.specs.Prelude.{◌≡◌, ℕ, ◌+◌, Bool, ◌&&◌, ◌==◌, false, true, List, [], ◌∷◌, ◌++◌, Option, Some, None, drop, filter, length, map, slice_index_or, take, unwrap_or, if◌then◌else◌}
 use Rattle.std.specs.List.{enumerate_from}
+use Rattle.sql_base.specs.declared.shapes.Column.{Column}
 use Rattle.sql_base.specs.declared.shapes.Shape.{Shape}
 use Rattle.sql_base.specs.declared.values.Value.{Value}
 use Rattle.sql_base.specs.declared.values.Value.TheVariants.{Null}
+use Rattle.sql_base.specs.Fit.{has_type}
 use Rattle.mig_lens.specs.declared.columns.Cell.{Cell}
 use Rattle.mig_lens.specs.declared.columns.Cell.TheVariants.{Carry, Make, Still}
 use Rattle.mig_lens.specs.declared.columns.Lens.{Lens}
-use Rattle.mig_lens.specs.Layout.{has_mark, layout}
+use Rattle.mig_lens.specs.Layout.{StoredPlace, has_mark, layout, place_of, shadows}
 use Rattle.mig_lens.specs.Lens.{is_carry}
 use Rattle.trigger_pair.specs.declared.pairs.Pair.{Pair}
-use Rattle.trigger_pair.specs.Rows.{IsOf}
-use Rattle.trigger_pair.specs.Stored.{begun, mark_value, old_view, shadow_values, stored_row}
+use Rattle.trigger_pair.specs.Stored.{begun, mark_value, old_view, shadow_values}
 
 abbrev pub pair_of : Shape → Shape → Lens → Pair
 pair_of old new lens = record { old = old; new = new; lens = lens; layout = layout old new lens }
+
+-- ---- which rows are stored, once one version is gone
+
+-- As many values as stored places, each NULL or of its place's type.
+abbrev pub fits_places : List StoredPlace → List Value → Bool
+fits_places [] [] = true
+fits_places (place ∷ places) (value ∷ values) = has_type (Some place.1) value && fits_places places values
+fits_places _ _ = false
+
+-- A row of a pair's layout: a value for each old column, for each shadow place, and for the mark, where there is one.
+-- The mark says nothing then, and may be NULL. Such rows are stored between C1 and C2, and between B1 and B2.
+abbrev pub IsLaidRow : Pair → List Value → Type 0
+IsLaidRow pair stored = fits_places pair.layout.columns stored ≡ true
+
+-- Of an old column that is carried C2 leaves the place.
+abbrev pub carried_column : Column → Cell → List StoredPlace
+carried_column column (Carry at) = place_of column ∷ []
+carried_column column (Make expr) = []
+carried_column column (Still constant) = []
+
+-- those of the old columns, in old order
+abbrev pub carried_columns : List Column → List Cell → List StoredPlace
+carried_columns (column ∷ columns) (cell ∷ cells) = carried_column column cell ++ carried_columns columns cells
+carried_columns _ _ = []
+
+-- What C2 leaves of a layout: the old columns that are carried, and then the shadow places.
+abbrev pub trimmed_columns : Pair → List StoredPlace
+trimmed_columns pair =
+    carried_columns pair.old.columns pair.lens.old_cols ++ shadows pair.new.columns pair.lens.new_cols
+
+-- A row of what C2 leaves. Such rows are stored between C2 and C3.
+abbrev pub IsTrimmedRow : Pair → List Value → Type 0
+IsTrimmedRow pair stored = fits_places (trimmed_columns pair) stored ≡ true
 
 -- ---- the old columns leave
 
@@ -42,13 +76,6 @@ shadows_in lens row = take (length (filter is_shadow lens.new_cols)) (drop (leng
 -- A stored row after C2: the carried values in old order, and then the shadow values.
 abbrev pub trimmed : Lens → List Value → List Value
 trimmed lens row = carried_values lens.old_cols row ++ shadows_in lens row
-
--- Such a row: of a value for each old column the carried ones, then of a value for each new column those that have a shadow place.
-abbrev pub trimmed_row : Pair → List Value → List Value → List Value
-trimmed_row pair old new = carried_values pair.lens.old_cols old ++ shadow_values pair.lens.new_cols new
-
-abbrev pub IsTrimmedRow : Pair → List Value → Type 0
-IsTrimmedRow pair stored = IsOf pair (trimmed_row pair) stored
 
 -- The place of an old column among the carried ones.
 abbrev pub carried_before : List Cell → ℕ → ℕ
@@ -94,11 +121,6 @@ behind_old lens (Some stored) = drop (length lens.old_cols) stored
 -- The stored row of old values that are written between B1 and B2, over the row that was stored, if there was one: the shadow places and the mark keep what they had, and are NULL and false in a new row.
 abbrev pub returned_row : Lens → List Value → Option (List Value) → List Value
 returned_row lens values before = values ++ behind_old lens before
-
--- Which rows are stored then: of a value for each old column, of a value for each new column those that have a shadow place, and the mark, where there is one, true or false.
-pub record IsReturnedRow (pair : Pair) (stored : List Value) : Type 0 where
-  pub marked : Bool
-  pub is : IsOf pair (λ old new. stored_row pair old new marked) stored
 
 -- ---- the steps
 

@@ -1,5 +1,5 @@
 //! The laws of the steps. Each is the contract of a function that does nothing.
-ghost use Rattle.phase_steps.specs.Laws.{CompletedRowsShow, KeepsPlaces, Leaves, LeftRowsAreFilled, LeftRowsKeep, LeftRowsShow, OthersTakeAStep, PairedRowsAreReturned, PlacesAreTheLayouts, RefusedTakeNoStep, ReturnedRowsAreLong, ReturnedRowsKeep, ReturnedRowsShow, Selects, TrimmingKeepsView, TrimmingLeavesTrimmed};
+ghost use Rattle.phase_steps.specs.Laws.{CompletedRowsShow, KeepsPlaces, LaidRowsAreLong, LaidRowsShowFitting, Leaves, LeftRowsAreFilled, LeftRowsAreLaid, LeftRowsKeep, LeftRowsShow, OthersTakeAStep, PairedRowsAreLaid, PlacesAreTheLayouts, RefusedTakeNoStep, ReturnedRowsKeep, ReturnedRowsShow, Selects, TrimmedPlacesAreTheColumns, TrimmedRowsAreLong, TrimmedRowsShowFitting, TrimmingKeepsView, TrimmingLeavesTrimmed};
 ghost use Rattle.trigger_pair.specs.Stored.{new_view, old_view};
 ghost use Rattle.phase_steps.specs.declared.phases.Cmd.TheVariants as cmd;
 ghost use Rattle.phase_steps.specs.Places.{completed_places, paired_places, rolled_back_places, trimmed_row_places};
@@ -23,10 +23,12 @@ pub fn completing_changes_no_view()
 }
 
 /// The places of a stored row from START to C2 or B2 are those of the layout that the two shapes and the lens have, by
-/// its names and in its order. The old version's view selects those of the old columns, and the new version's for each
-/// column that of the one which it carries, or its own.
+/// its names and in its order; between C2 and C3 they are those of the carried columns and the shadow places. The old
+/// version's view selects those of the old columns, and the new version's for each column that of the one which it carries,
+/// or its own.
 pub fn views_select_places()
     ensures layout { PlacesAreTheLayouts }
+    ensures trimmed { TrimmedPlacesAreTheColumns }
     ensures old { Selects old_view rolled_back_places }
     ensures new { Selects new_view completed_places }
 {
@@ -46,26 +48,37 @@ pub fn steps_keep_places()
     trigger_pair::laws::pairs_are_long();
 }
 
-/// A row that is written between C1 and C2 over a filled row or none is a filled row. C2 leaves of a filled row the carried
-/// values and the shadow values, and nothing else: the lost columns and the mark are gone.
+/// While steps of completing or of rolling back are left, a row is stored by the pair's layout until C2 or B2: it has a
+/// value for each place, NULL or of the place's type. The rows from START on are such rows. What either view selects of
+/// one fits its version's columns. After C2 the same holds of the old columns that are carried and the shadow places.
+pub fn rows_fit_their_places()
+    ensures begun { PairedRowsAreLaid }
+    ensures long { LaidRowsAreLong }
+    ensures shown { LaidRowsShowFitting }
+    ensures trimmed_long { TrimmedRowsAreLong }
+    ensures trimmed_shown { TrimmedRowsShowFitting }
+{
+    trigger_pair::laws::pairs_are_long();
+}
+
+/// A row that is written between C1 and C2, over a row of the layout or none, is a filled row, and so one of the layout. C2
+/// leaves of a row of the layout the carried columns and the shadow places, and nothing else: the lost columns and the mark
+/// are gone.
 pub fn rows_are_stored_by_the_step()
     ensures left { LeftRowsAreFilled }
+    ensures laid { LeftRowsAreLaid }
     ensures trimmed { TrimmingLeavesTrimmed }
 {
     trigger_pair::laws::pairs_are_long();
 }
 
-/// A row that is written between B1 and B2 over one that is stored then, or over none, shows the values that were written.
-/// In a column of the new version that isn't carried it has what was there before, or NULL. The rows that are stored then
-/// are those from START on and those that such writes leave; each has a value for each place.
+/// A row that is written between B1 and B2, over a row of the layout or none, shows the values that were written, and is a
+/// row of the layout. In a column of the new version that isn't carried it has what was there before, or NULL.
 pub fn returned_rows_show_what_was_written()
     ensures shown { ReturnedRowsShow }
     ensures kept { ReturnedRowsKeep }
-    ensures begun { PairedRowsAreReturned }
-    ensures long { ReturnedRowsAreLong }
 {
     trigger_pair::laws::pairs_are_long();
-    trigger_pair::laws::paired_rows_are_long();
 }
 
 /// A step of completing and one of rolling back are taken exactly where nothing stands against them: where `may` has a

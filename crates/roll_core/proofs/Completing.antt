@@ -1,8 +1,8 @@
 -- Whether the rows allow that a migration is completed, and what its first step leaves then.
-use Rattle.roll_core.proofs.Words.{ℤ, Each, Below, meaning, ◌≡◌, ◌∙◌, ℕ, List, [], ◌∷◌, Bool, true, false, Option, Some, None, Ok, Err, inl, inr, is_some, map, ap, refl, sym, subst, option_map, rows_of}
+use Rattle.roll_core.proofs.Words.{ℤ, Each, Below, meaning, ◌≡◌, ◌∙◌, ℕ, List, [], ◌∷◌, Bool, true, false, Option, Some, None, Ok, Err, is_some, map, ap, refl, sym, subst, option_map, rows_of}
 use Rattle.roll_core.proofs.Words.{option_and_then, if◌then◌else◌, slice_get, AllByRecursion, option_map_or, option_or, either_none, Value, least, Kind, Refusal, NotFilled, Unfinished, Kept}
 use Rattle.roll_core.proofs.Words.{first_some, without, name_of, invalid_cause, State, complete, finish, not_valid, numbers_of, stepped, tidied, CommandOutcome, Complete, IsState, Shared, active_name, shared}
-use Rattle.roll_core.proofs.Words.{table_on, New, Old, Pair, IsPair, UnfilledRowsAreBegun, IsFilledRow, IsPairedRow, is_marked, new_view, old_view, Paired, Left, meant, numbers_in, AreKept, Goes}
+use Rattle.roll_core.proofs.Words.{table_on, New, Old, Pair, IsPair, IsLaidRow, IsPairedRow, PairedRowsAreLaid, is_marked, new_view, old_view, Paired, Left, meant, numbers_in, AreKept, Goes}
 use Rattle.roll_core.proofs.Words.{invalid_in, left_parts, may_not_complete, not_filled_in, IsStored, IsStoredRow, IsStoredTable, Stored, StoredRow, StoredTable, by_completing, kept, pair_over, rows_meant}
 use Rattle.roll_core.proofs.Words.{staying_row, standing_alone, table_meant}
 use Rattle.roll_core.proofs.Words.kind
@@ -56,18 +56,17 @@ unmarked pair (row ∷ rows) h =
     let here = elim (is_marked pair row.1) as (λ b. is_some (if◌then◌else◌ {A = Option (List Value)} b None (Some (new_view pair row.1))) ≡ true → b ≡ false) [ true ↦ λ h. cc | false ↦ λ h. refl ] h.0 in
     (here, unmarked pair rows h.1)
 
--- The new half of such a row stays, and it is a filled row.
+-- The new half of such a row stays.
 rows_stay : (pair : Pair) (rows : List StoredRow) → AllByRecursion (λ row. is_marked pair row.1 ≡ false) rows → map (kept (Left pair)) rows ≡ map (staying_row Old (Some pair.lens)) (map (kept (Paired pair)) rows)
 rows_stay pair [] h = refl
 rows_stay pair (row ∷ rows) h =
     let f : Bool → Kept = λ b. record { key = row.0; halves = record { old = if b then None else Some (new_view pair row.1); new = None }; lost = migrate.lost_weight pair.lens.old_cols (old_view pair row.1) } in
     ap (λ (k : Kept). k ∷ map (kept (Left pair)) rows) (sym (ap f h.0)) ∙ ap (λ (rs : List Kept). staying_row Old (Some pair.lens) (kept (Paired pair) row) ∷ rs) (rows_stay pair rows h.1)
 
-rows_filled : UnfilledRowsAreBegun → (pair : Pair) (rows : List StoredRow) → IsPair pair → AllByRecursion (λ row. is_marked pair row.1 ≡ false) rows → AllByRecursion (λ row. IsPairedRow pair row.1) rows → AllByRecursion (λ row. IsFilledRow pair row.1) rows
-rows_filled law pair [] is m h = tt
-rows_filled law pair (row ∷ rows) is m h =
-    let not : is_marked pair row.1 ≡ false = m.0 in
-    (elim h.0 as (λ _. IsFilledRow pair row.1) [ inl filled ↦ filled | inr begun ↦ let yes = (law pair row.1 is begun).1 in cc ], rows_filled law pair rows is m.1 h.1)
+rows_laid : PairedRowsAreLaid → (pair : Pair) (rows : List StoredRow) → IsPair pair
+    → AllByRecursion (λ row. IsPairedRow pair row.1) rows → AllByRecursion (λ row. IsLaidRow pair row.1) rows
+rows_laid law pair [] is h = tt
+rows_laid law pair (row ∷ rows) is h = (law pair row.1 is h.0, rows_laid law pair rows is h.1)
 
 -- So the rows of a table that both versions have stay.
 filled_stay : Below → (frame : State) (all : List StoredTable) → IsState (meant frame all) → migrate.not_filled (meant frame all) (numbers_of (meant frame all)) ≡ None → (at : ℕ) (table : StoredTable)
@@ -81,7 +80,7 @@ filled_stay law frame all stands filled at table e stored both is form =
     let there : is_some (table_on s New table.number) ≡ true = ap is_some (law.shared s table.number both stands is).new in
     let marks = unmarked pair table.rows (subst (λ form. Each (λ row. is_some row.halves.new ≡ true) (map (kept form) table.rows)) form (new there)) in
     let paired = subst (λ form. AllByRecursion (λ row. IsStoredRow form row.1) table.rows) form stored in
-    record { means = rows_stay pair table.rows marks; stored = rows_filled law.unfilled pair table.rows (both_pair law s table.number both stands is) marks paired }
+    record { means = rows_stay pair table.rows marks; stored = rows_laid law.paired_laid pair table.rows (both_pair law s table.number both stands is) paired }
 
 -- ---- the first step
 

@@ -2,8 +2,8 @@
 use Rattle.roll_core.proofs.Words.{◌≡◌, ◌∙◌, ℕ, ℤ, List, [], ◌∷◌, Bool, true, false, Option, Some, None, is_some, cond, int_cmp, map, ap, refl, sym, subst, option_map, T}
 use Rattle.roll_core.proofs.Words.{int_eq_equiv, is_sorted, below_all, Each, eq_by_cmp, is_eq, is_lt, some_same, Value, Table, Halves, Kept, Beside, number_of, shape_of, Rows}
 use Rattle.roll_core.proofs.Words.{State, HalvesAgree, PairStands, SiteRow, TableStands, may_miss_beside, new_table_by, table_by, HalfStands, NewStands, Found, Shared, beside_on, lens_between}
-use Rattle.roll_core.proofs.Words.{shared, site_of, table_on, New, Old, Side, FilledBefore, Pair, Form, Own, Paired, Left, Trimmed, FormSuits, IsStoredRow, StoredRow, kept}
-use Rattle.roll_core.proofs.Words.{Calm, ReturnedBefore, Returned, Shape, lost_columns_by, other, pair_over, row_fits}
+use Rattle.roll_core.proofs.Words.{shared, site_of, table_on, New, Old, Side, LaidBefore, Pair, Form, Own, Paired, Left, Trimmed, FormSuits, IsStoredRow, StoredRow, kept}
+use Rattle.roll_core.proofs.Words.{Calm, Returned, Shape, lost_columns_by, other, pair_over, row_fits}
 use Rattle.roll_core.proofs.Words.finite
 use Rattle.std.specs.FinMap.{find}
 use Rattle.roll_core.proofs.Made.{HasNew}
@@ -31,9 +31,9 @@ sorted_found (row ∷ rows) s =
 abbrev pub WeighsOver : Form → Option (List Value) → ℕ → Type 0
 WeighsOver (Own side) before lost = lost ≡ 0
 WeighsOver (Paired pair) before lost = lost ≡ 0
-WeighsOver (Left pair) before lost = FilledBefore pair before × (lost ≡ lost_over pair before)
+WeighsOver (Left pair) before lost = LaidBefore pair before × (lost ≡ lost_over pair before)
 WeighsOver (Trimmed pair) before lost = lost ≡ 0
-WeighsOver (Returned pair) before lost = ReturnedBefore pair before × (lost ≡ returned_over pair before)
+WeighsOver (Returned pair) before lost = LaidBefore pair before × (lost ≡ returned_over pair before)
 
 -- A row of this key may have this lost weight, over what is stored.
 abbrev pub Weighs : Form → Rows → ℤ → ℕ → Type 0
@@ -49,9 +49,9 @@ new_weighs (Returned pair) lost e = (tt, e)
 row_weighs : (form : Form) (before : Option (List Value)) (row : StoredRow) → before ≡ Some row.1 → IsStoredRow form row.1 → WeighsOver form before (kept form row).lost
 row_weighs (Own side) before row e s = refl
 row_weighs (Paired pair) before row e s = refl
-row_weighs (Left pair) before row e s = (subst (FilledBefore pair) (sym e) s, ap (lost_over pair) (sym e))
+row_weighs (Left pair) before row e s = (subst (LaidBefore pair) (sym e) s, ap (lost_over pair) (sym e))
 row_weighs (Trimmed pair) before row e s = refl
-row_weighs (Returned pair) before row e s = (subst (ReturnedBefore pair) (sym e) s, ap (returned_over pair) (sym e))
+row_weighs (Returned pair) before row e s = (subst (LaidBefore pair) (sym e) s, ap (returned_over pair) (sym e))
 
 rows_weigh : (form : Form) (all : Rows) (rows : List StoredRow) → Each (λ row. find int_cmp row.0 (finite.entries all) ≡ Some row.1) rows → Each (λ row. IsStoredRow form row.1) rows → Each (λ row. Weighs form all row.key row.lost) (map (kept form) rows)
 rows_weigh form all [] f s = tt

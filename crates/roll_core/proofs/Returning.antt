@@ -40,7 +40,7 @@ rows_return law s number both is old (row ∷ rows) h stored =
     record {
       means = ap (λ (k : Kept). k ∷ map (kept (Returned pair)) rows) (ap weighing (sym shown))
           ∙ ap (λ (ks : List Kept). staying_row New (Some pair.lens) (kept (Paired pair) row) ∷ ks) rest.means;
-      stored = (law.still_returned pair row.1 is stored.0, rest.stored);
+      stored = (law.paired_laid pair row.1 is stored.0, rest.stored);
     }
 
 -- The rows of a table that both versions have stay, whatever they are.

@@ -97,7 +97,7 @@ next_by before wanted lost one table f h =
 row_trimmed : Below → (pair : Pair) → IsPair pair → (row : StoredRow) → IsStoredRow (Left pair) row.1
     → StepsTo (Left pair) (Trimmed pair) (λ row. without_loss (kept (Left pair) row)) row
 row_trimmed law pair is row h =
-    let shown = law.trims pair row.1 is (law.filled_long pair row.1 is h).0 in
+    let shown = law.trims pair row.1 is (law.laid_long pair row.1 h) in
     (ap (λ (v : List Value). record { key = row.0; halves = record { old = Some v; new = None }; lost = 0 }) shown, law.trimmed pair row.1 is h)
 
 second_by : Below → (both : Option Shared) → ((shared : Shared) → both ≡ Some shared → IsPair (pair_over shared)) → (table : StoredTable)

@@ -1,9 +1,9 @@
 -- The halves of what is stored are the halves that it is made of.
-use Rattle.roll_core.proofs.Words.{halves_of, Shape, get_or_append_left, ◌≡◌, ◌∙◌, ◌<◌, ℕ, suc, ℤ, ◌+◌, List, [], ◌∷◌, ◌++◌, true, false, if◌then◌else◌, Option, Some, None, ap, refl, sym, subst}
-use Rattle.roll_core.proofs.Words.{length, map, take, append_assoc, arith, not, inl, zero-add, slice_index_or, filter, enumerate_from, zip, take_at, sum_by-cons, Value, Null, row_fits, and_false}
+use Rattle.roll_core.proofs.Words.{halves_of, Shape, get_or-take, ◌≡◌, ◌∙◌, ◌<◌, ℕ, suc, ℤ, ◌+◌, List, [], ◌∷◌, true, false, if◌then◌else◌, Option, Some, None, ap, refl, sym, subst}
+use Rattle.roll_core.proofs.Words.{length, map, arith, not, inl, zero-add, slice_index_or, filter, enumerate_from, zip, sum_by-cons, Value, Null, row_fits, and_false}
 use Rattle.roll_core.proofs.Words.{columns_fit, columns_long, row_long, value_weight, Cell, Carry, Make, Still, is_carry, Halves, Kept, lost_columns_in, lost_value, lost_weight, Pair, Agree, IsPair}
-use Rattle.roll_core.proofs.Words.{PairsAreLong, mark_value, new_half, new_view, old_view, shadow_values, stored_row, FilledBefore, LeftRowsKeep, left_row, left_value, Form, Own, Paired}
-use Rattle.roll_core.proofs.Words.{ReturnedBefore, ReturnedRowsKeep, Returned, is_shadow, returned_row, shadows_before, shadows_shown, sum_by}
+use Rattle.roll_core.proofs.Words.{PairsAreLong, new_half, new_view, old_view, shadow_values, stored_row, LaidBefore, LaidRowsShowFitting, LeftRowsKeep, left_row, left_value, Form, Own, Paired}
+use Rattle.roll_core.proofs.Words.{ReturnedRowsKeep, Returned, is_shadow, returned_row, shadows_before, shadows_shown, sum_by}
 use Rattle.roll_core.proofs.Words.{half, halves_on, unwrap_or, New, Old, Side, Left, Trimmed, IsStoredRow, kept, lost_of, stored_values, Below}
 
 -- ---- which rows can be stored in a form
@@ -48,9 +48,9 @@ pub record Together (pair : Pair) (row : Kept) : Type 0 where
 abbrev pub Storable : Form → Option (List Value) → Kept → Type 0
 Storable (Own side) before row = Alone side row × (row.lost ≡ 0)
 Storable (Paired pair) before row = Together pair row × (row.lost ≡ 0)
-Storable (Left pair) before row = AloneFits Old pair.new row × FilledBefore pair before × (row.lost ≡ lost_over pair before)
+Storable (Left pair) before row = AloneFits Old pair.new row × LaidBefore pair before × (row.lost ≡ lost_over pair before)
 Storable (Trimmed pair) before row = AloneFits Old pair.new row × (row.lost ≡ 0)
-Storable (Returned pair) before row = AloneFits Old pair.old row × ReturnedBefore pair before × (row.lost ≡ returned_over pair before)
+Storable (Returned pair) before row = AloneFits Old pair.old row × LaidBefore pair before × (row.lost ≡ returned_over pair before)
 
 -- ---- lost weights
 
@@ -82,18 +82,19 @@ new_weight (Still constant ∷ cells) values k =
     one_more (Still constant) (add_lost (Still constant) Null cells (map (left_value values []) (enumerate_from (k + 1) cells))) (new_weight cells values (k + 1))
 
 -- The lost weight of what is written over what was stored is the weight of that.
-left_lost : PairsAreLong → LeftRowsKeep → (pair : Pair) (values : List Value) (before : Option (List Value)) → IsPair pair → FilledBefore pair before → lost_of (Left pair) (left_row pair.lens values before) ≡ lost_over pair before
-left_lost long keep pair values None p was = ap (lost_weight pair.lens.old_cols) (keep pair values None p) ∙ new_weight pair.lens.old_cols values 0
-left_lost long keep pair values (Some stored) p was =
-    let shadow = shadow_values pair.lens.new_cols was.new in
-    let mark = mark_value pair.layout.mark false in
-    let is : stored ≡ was.old ++ (shadow ++ mark) = was.is ∙ append_assoc was.old shadow mark in
-    let old_long = columns_long pair.old.columns was.old was.old_fits in
-    let shown : old_view pair stored ≡ was.old = ap (take (length pair.old.columns)) is ∙ take_at was.old (shadow ++ mark) (length pair.old.columns) old_long in
-    let cells_long : length was.old ≡ length pair.lens.old_cols = old_long ∙ sym (long pair p).0 in
-    let same : (i : ℕ) → i < length pair.lens.old_cols → slice_index_or stored (0 + i) Null ≡ slice_index_or was.old i Null = λ i few.
-    ap (λ n. slice_index_or stored n Null) (zero-add i) ∙ ap (λ row. slice_index_or row i Null) is ∙ get_or_append_left was.old (shadow ++ mark) Null i (omega arith) in
-    ap (lost_weight pair.lens.old_cols) (keep pair values (Some stored) p) ∙ left_weight pair.lens.old_cols values stored was.old 0 cells_long same ∙ ap (lost_weight pair.lens.old_cols) (sym shown)
+left_lost : PairsAreLong → LaidRowsShowFitting → LeftRowsKeep → (pair : Pair) (values : List Value)
+    → (before : Option (List Value)) → IsPair pair → LaidBefore pair before
+    → lost_of (Left pair) (left_row pair.lens values before) ≡ lost_over pair before
+left_lost long fitting keep pair values None p was = ap (lost_weight pair.lens.old_cols) (keep pair values None p) ∙ new_weight pair.lens.old_cols values 0
+left_lost long fitting keep pair values (Some stored) p was =
+    let olds = old_view pair stored in
+    let olds_long = columns_long pair.old.columns olds (fitting pair stored p was).0 in
+    let cells_long : length olds ≡ length pair.lens.old_cols = olds_long ∙ sym (long pair p).0 in
+    let same : (i : ℕ) → i < length pair.lens.old_cols → slice_index_or stored (0 + i) Null ≡ slice_index_or olds i Null = λ i few.
+    let among : i < length pair.old.columns = omega (arith, few, cells_long, olds_long) in
+    ap (λ n. slice_index_or stored n Null) (zero-add i) ∙ sym (get_or-take (length pair.old.columns) stored i Null among) in
+    ap (lost_weight pair.lens.old_cols) (keep pair values (Some stored) p)
+    ∙ left_weight pair.lens.old_cols values stored olds 0 cells_long same
 
 -- ---- lost weights, where the new version is gone
 
@@ -127,10 +128,11 @@ before_weight pair None = nulls_weigh pair.lens.new_cols
 before_weight pair (Some stored) = sym (shown_weight pair stored)
 
 -- The lost weight of what is written over what was stored is the weight of that.
-returned_lost : ReturnedRowsKeep → (pair : Pair) (values : List Value) (before : Option (List Value)) → IsPair pair → row_fits pair.old values ≡ true → ReturnedBefore pair before
+returned_lost : ReturnedRowsKeep → (pair : Pair) (values : List Value) (before : Option (List Value)) → IsPair pair
+    → row_fits pair.old values ≡ true
     → lost_of (Returned pair) (returned_row pair.lens values before) ≡ returned_over pair before
-returned_lost keep pair values before p fit was =
-    shown_weight pair (returned_row pair.lens values before) ∙ ap (sum_by value_weight) (keep pair values before p fit was) ∙ before_weight pair before
+returned_lost keep pair values before p fit =
+    shown_weight pair (returned_row pair.lens values before) ∙ ap (sum_by value_weight) (keep pair values before p fit) ∙ before_weight pair before
 
 -- ---- the halves of what is stored
 
@@ -173,16 +175,16 @@ stores_row law (Paired pair) before row p s =
 stores_row law (Left pair) before row p s =
     let a = s.0 in
     let shown = (law.shown pair a.values before p a.fits).0 in
-    let lost = left_lost law.long law.kept pair a.values before p s.1 in
-    stored_as (Left pair) before row (record { old = Some a.values; new = None }) a.halves (ap (λ v. record { old = Some v; new = None }) shown) (lost ∙ sym s.2) (law.filled pair a.values before p a.fits s.1)
+    let lost = left_lost law.long law.laid_shown law.kept pair a.values before p s.1 in
+    stored_as (Left pair) before row (record { old = Some a.values; new = None }) a.halves (ap (λ v. record { old = Some v; new = None }) shown) (lost ∙ sym s.2) (law.laid pair a.values before p a.fits s.1)
 stores_row law (Trimmed pair) before row p s =
     let a = s.0 in
     let left = left_row pair.lens a.values None in
     let there = law.shown pair a.values None p a.fits in
     let shown = law.trims pair left p there.1 ∙ there.0 in
-    stored_as (Trimmed pair) before row (record { old = Some a.values; new = None }) a.halves (ap (λ v. record { old = Some v; new = None }) shown) (sym s.1) (law.trimmed pair left p (law.filled pair a.values None p a.fits tt))
+    stored_as (Trimmed pair) before row (record { old = Some a.values; new = None }) a.halves (ap (λ v. record { old = Some v; new = None }) shown) (sym s.1) (law.trimmed pair left p (law.laid pair a.values None p a.fits tt))
 stores_row law (Returned pair) before row p s =
     let a = s.0 in
     let there = law.returned pair a.values before p a.fits s.1 in
-    let lost = returned_lost law.returned_kept pair a.values before p a.fits s.1 in
+    let lost = returned_lost law.returned_kept pair a.values before p a.fits in
     stored_as (Returned pair) before row (record { old = Some a.values; new = None }) a.halves (ap (λ v. record { old = Some v; new = None }) there.0) (lost ∙ sym s.2) there.1

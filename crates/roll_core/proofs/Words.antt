@@ -37,9 +37,9 @@ pub use Rattle.mig_lens.specs.Plan.{created_in}
 pub use Rattle.mig_lens.specs.Lens.{IsWellFormed, fits, is_carried_from, is_carry, unfilled}
 pub use Rattle.mig_lens.specs.declared.columns.Cell.TheVariants.{Carry, Make, Still}
 pub use Rattle.mig_lens.specs.declared.faults.Refusal.TheVariants.{NotFilled, Unfinished}
-pub use Rattle.phase_steps.specs.Laws.{FilledBefore, LeftRowsKeep, PairedRowsAreReturned, ReturnedBefore, ReturnedRowsKeep, shadows_before, shadows_shown}
+pub use Rattle.phase_steps.specs.Laws.{LaidBefore, LaidRowsShowFitting, LeftRowsKeep, PairedRowsAreLaid, ReturnedRowsKeep, shadows_before, shadows_shown}
 pub use Rattle.phase_steps.specs.Phases.{already, inactive, may_fill, may_start, taken, unfinished}
-pub use Rattle.phase_steps.specs.Rows.{IsReturnedRow, is_shadow, left_row, left_value, returned_row, trimmed}
+pub use Rattle.phase_steps.specs.Rows.{IsLaidRow, is_shadow, left_row, left_value, returned_row, trimmed}
 pub use Rattle.row_rules.specs.Accept.{clashes, has_key, is_taken, key_cause, keys_of, sound, times, total_weight, wrong}
 pub use Rattle.row_rules.specs.Causes.{heavy_statement, max_reply, max_total, row_error, taken_key, value_cause}
 pub use Rattle.row_rules.specs.Changes.{after_change, after_changes, altered, altered_halves, altered_row, cause_together, changes, filled_row, keys_changed, matching, new_keys_cause, new_row, passes, put_all as put_each, put_row, refused_together, remade, row_passed, rows_put}

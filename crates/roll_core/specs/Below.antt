@@ -4,7 +4,9 @@ use Rattle.machine.specs.Laws.{BothAreShared, ChangesAgree, ChangesKeep, FilledR
 use Rattle.mig_plan.specs.Laws.{PlannedNumbersFit}
 use Rattle.row_store.specs.Laws.{RemovedIsLeftOut}
 use Rattle.trigger_pair.specs.Laws.{BeginningLeaves, BegunRowsHold, FilledRowsAreLong, PairsAreLong, StoredRowsHold, UnfilledRowsAreBegun}
-use Rattle.phase_steps.specs.Laws.{LeftRowsAreFilled, PairedRowsAreReturned, ReturnedRowsAreLong, ReturnedRowsKeep, ReturnedRowsShow, LeftRowsKeep, LeftRowsShow, TrimmingKeepsView, TrimmingLeavesTrimmed}
+use Rattle.phase_steps.specs.Laws.{LaidRowsAreLong, LaidRowsShowFitting, LeftRowsAreLaid, LeftRowsKeep, LeftRowsShow, PairedRowsAreLaid}
+use Rattle.phase_steps.specs.Laws.{ReturnedRowsKeep, ReturnedRowsShow, TrimmedRowsAreLong, TrimmedRowsShowFitting}
+use Rattle.phase_steps.specs.Laws.{TrimmingKeepsView, TrimmingLeavesTrimmed}
 
 pub record Below : Type 0 where
   -- migrations
@@ -34,12 +36,15 @@ pub record Below : Type 0 where
   pub paired : BeginningLeaves
   pub filled_long : FilledRowsAreLong
   pub unfilled : UnfilledRowsAreBegun
+  pub paired_laid : PairedRowsAreLaid
+  pub laid_long : LaidRowsAreLong
+  pub laid_shown : LaidRowsShowFitting
+  pub trimmed_long : TrimmedRowsAreLong
+  pub trimmed_shown : TrimmedRowsShowFitting
   pub shown : LeftRowsShow
   pub kept : LeftRowsKeep
-  pub filled : LeftRowsAreFilled
+  pub laid : LeftRowsAreLaid
   pub trims : TrimmingKeepsView
   pub trimmed : TrimmingLeavesTrimmed
   pub returned : ReturnedRowsShow
   pub returned_kept : ReturnedRowsKeep
-  pub still_returned : PairedRowsAreReturned
-  pub returned_long : ReturnedRowsAreLong

@@ -24,9 +24,9 @@ use Rattle.machine.specs.Migrate.{lost_columns_in, lost_weight}
 use Rattle.machine.specs.Standing.{HalfStands, IsState}
 use Rattle.machine.specs.State.{Shared, lens_among, lost_columns_of, shared, table_on}
 use Rattle.trigger_pair.specs.declared.pairs.Pair.{Pair}
-use Rattle.trigger_pair.specs.Rows.{IsFilledRow, IsPairedRow}
+use Rattle.trigger_pair.specs.Rows.{IsPairedRow}
 use Rattle.trigger_pair.specs.Stored.{new_half, new_view, old_view, stored_row}
-use Rattle.phase_steps.specs.Rows.{IsReturnedRow, IsTrimmedRow, left_row, pair_of, returned_row, trimmed, trimmed_view}
+use Rattle.phase_steps.specs.Rows.{IsLaidRow, IsTrimmedRow, left_row, pair_of, returned_row, trimmed, trimmed_view}
 use Rattle.roll_core.specs.declared.forms.Form.{Form}
 use Rattle.roll_core.specs.declared.forms.Form.TheVariants.{Own, Paired, Left, Trimmed, Returned}
 
@@ -148,13 +148,17 @@ stored_values (Returned pair) halves before = returned_row pair.lens (unwrap_or 
 
 -- ---- which parts there are
 
--- Which rows are stored in a form. While both versions stand a row is filled, or as START left it. Where it is completed each is filled then, until the second step leaves of it what the standing version shows; where it is rolled back each keeps what stands behind its old columns until the second step. One version alone stores just its rows, and these fit its shape (`IsState`).
+-- Which rows are stored in a form. While both versions stand a row is filled, or as START left it. After the first step
+-- of completing, and after that of rolling back, a row fits the layout: as many values as places, each NULL or of its
+-- place's type. The mark may be true, false or NULL then, since no view shows it. The second step of completing leaves
+-- the carried columns and the shadow places, and a row fits these. One version alone stores just its rows, and these fit
+-- its shape (`IsState`).
 abbrev pub IsStoredRow : Form → List Value → Type 0
 IsStoredRow (Own side) values = Unit {0}
 IsStoredRow (Paired pair) values = IsPairedRow pair values
-IsStoredRow (Left pair) values = IsFilledRow pair values
+IsStoredRow (Left pair) values = IsLaidRow pair values
 IsStoredRow (Trimmed pair) values = IsTrimmedRow pair values
-IsStoredRow (Returned pair) values = IsReturnedRow pair values
+IsStoredRow (Returned pair) values = IsLaidRow pair values
 
 -- How many columns of a table are lost with the version that is gone, until the second step takes them.
 abbrev pub lost_columns_by : Form → ℕ

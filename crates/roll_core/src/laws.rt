@@ -16,6 +16,7 @@ pub fn laws_below()
     trigger_pair::laws::begun_rows_hold();
     trigger_pair::laws::stored_rows_are_paired();
     trigger_pair::laws::paired_rows_are_long();
+    phase_steps::laws::rows_fit_their_places();
     phase_steps::laws::left_rows_show_what_was_written();
     phase_steps::laws::completing_changes_no_view();
     phase_steps::laws::rows_are_stored_by_the_step();

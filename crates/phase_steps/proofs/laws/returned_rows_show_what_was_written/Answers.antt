@@ -1,4 +1,4 @@
-use Rattle.phase_steps.proofs.ReturnedRows.{paired_rows_are_returned, returned_rows_are_long, returned_rows_keep, returned_rows_show}
+use Rattle.phase_steps.proofs.ReturnedRows.{returned_rows_keep, returned_rows_show}
 use Rattle.phase_steps.proofs.laws.returned_rows_show_what_was_written.Goals as goal
 
 pub returns-clause-shown : goal.returns-clause-shown
@@ -6,9 +6,3 @@ returns-clause-shown c = returned_rows_show c.pairs_are_long.ensures
 
 pub returns-clause-kept : goal.returns-clause-kept
 returns-clause-kept c = returned_rows_keep c.pairs_are_long.ensures
-
-pub returns-clause-begun : goal.returns-clause-begun
-returns-clause-begun c = paired_rows_are_returned
-
-pub returns-clause-long : goal.returns-clause-long
-returns-clause-long c = returned_rows_are_long c.paired_rows_are_long.ensures.filled
