@@ -374,7 +374,7 @@ fn codes_of_others(
         let half = values(alloc, "0 NULL")?;
         let mut half = half;
         half.push(value(alloc, word)?)?;
-        if index.other_alike(0, code, half.as_slice(), keys) {
+        if index.other_alike(code, half.as_slice(), keys) == Some(true) {
             found.push_str(word)?;
         }
     }
@@ -402,7 +402,7 @@ fn the_indexes_of_a_side_change_as_its_rows_do(rt: HostRuntime) -> Result<(), Fa
             codes_of_others(alloc, &index, &code, &[1])?.as_str(),
             others
         );
-        change(alloc, &mut index, of, side, rows, changes)?;
+        change(alloc, &mut index, side, rows, changes)?;
         assert_eq!(rt; codes_of_others(alloc, &index, &code, &[])?.as_str(), after);
     }
     Ok(())

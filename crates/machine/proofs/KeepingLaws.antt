@@ -183,17 +183,17 @@ ended_lawful s lawful =
 emptied_stays : (s : State) (left : ℕ) (k : Kind) → IsLawful s → IsLawful (emptied left k s)
 emptied_stays s left k lawful = record { rows = emptied_lawful s left k lawful.rows; unique = emptied_unique s left k lawful.unique }
 
-finish_lawful : (s : State) (m : Mode) → s.mode ≡ m → IsState s → IsLawful s → Holds Lawful (finish s m)
-finish_lawful s Calm is stands lawful = tt
-finish_lawful s (Both name schema fates) is stands lawful =
+finish_lawful : Below → (s : State) (m : Mode) → s.mode ≡ m → IsState s → IsLawful s → Holds Lawful (finish s m)
+finish_lawful below s Calm is stands lawful = tt
+finish_lawful below s (Both name schema fates) is stands lawful =
     holds_without Lawful (may_not_complete s) (stepped 1 (standing_alone by_completing name schema fates s))
     (λ allowed.
     let valid = map_none not_valid (invalid s (numbers_of s)) (either_none (not_filled s (numbers_of s)) (option_map not_valid (invalid s (numbers_of s))) allowed).1 in
-    record { rows = completed_lawful s name schema fates is stands.numbers lawful.rows valid; unique = completed_unique s name schema fates is stands.numbers valid })
+    record { rows = completed_lawful below s name schema fates is stands.numbers lawful.rows valid; unique = completed_unique below s name schema fates is stands.numbers valid })
 
-complete_lawful : (s : State) → IsState s → IsLawful s → Holds Lawful (complete s)
-complete_lawful s stands lawful =
-    completing_so s Lawful (λ is. finish_lawful s s.mode refl stands lawful)
+complete_lawful : Below → (s : State) → IsState s → IsLawful s → Holds Lawful (complete s)
+complete_lawful below s stands lawful =
+    completing_so s Lawful (λ is. finish_lawful below s s.mode refl stands lawful)
     (λ is. tidied_so s Lawful (s.left == 2) (λ two. emptied_stays s 1 s.kind lawful) (λ last. ended_lawful s lawful))
 
 -- ---- ROLLBACK
@@ -214,7 +214,7 @@ steps_keep_laws below s what reply t step stands lawful =
       line = λ path reading. line_lawful below s path reading stands lawful;
       start = λ asked. begun_lawful s asked lawful;
       some = λ number chosen _. filled_lawful below s number (filter chosen (missing_keys s number)) stands lawful;
-      complete = complete_lawful s stands lawful;
+      complete = complete_lawful below s stands lawful;
       rollback = rollback_lawful s lawful;
     }) what reply t step
 

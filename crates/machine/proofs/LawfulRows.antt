@@ -1,7 +1,7 @@
 -- Rows keep their constraints and their limit through every step.
 use Rattle.std.proofs.Common.{◌≡◌, ◌∙◌, ℕ, ℤ, List, [], ◌∷◌, Bool, true, false, ◌||◌, Option, Some, None, map, is_some, ap, refl, sym, subst, if◌then◌else◌, true≢false, option_map, option_and_then, nat_lt, codes}
 use Rattle.std.specs.List.{AllByRecursion as Each, filter, list_any}
-use Rattle.std.specs.Option.{option_map_or, option_or}
+use Rattle.std.specs.Option.{option_map_or}
 use Rattle.sql_base.specs.Laws.{either_none}
 use Rattle.sql_base.specs.Weight.{weight}
 use Rattle.sql_base.specs.declared.codes.Code.TheVariants.{C54000}
@@ -16,11 +16,12 @@ use Rattle.mig_lens.specs.declared.plans.Fate.{Fate}
 use Rattle.mig_lens.specs.declared.plans.Plan.{Plan}
 use Rattle.mig_lens.specs.Layout.{has_mark}
 use Rattle.mig_lens.specs.Plan.{Table, created_in, table_numbered}
-use Rattle.row_rules.specs.Accept.{clashes_on, is_heavy, keys_of, side_cause, weight_cause}
+use Rattle.row_rules.specs.Accept.{is_heavy, side_cause, weight_cause}
 use Rattle.row_rules.specs.Causes.{max_weight}
-use Rattle.row_rules.specs.Outcome.{first_some}
 use Rattle.row_rules.specs.Site.{half, other}
-use Rattle.row_rules.specs.Steps.{begun_half, begun_row, new_half_cause, shows_heavy}
+use Rattle.row_rules.specs.Laws.{ValidRowsHaveNoCause}
+use Rattle.row_rules.specs.Steps.{begun_half, begun_row, invalid as broken_constraint, new_half_cause, shows_heavy}
+use Rattle.machine.specs.Below.{Below}
 use Rattle.machine.specs.Lawful.{HasLawfulRows, IsLawfulRow, RowsLawful}
 use Rattle.machine.specs.Migrate.{Ending, begun_table, by_completing, by_rolling_back, created_tables, has_heavy, invalid, invalid_in, numbers_of, staying_row, staying_table, standing_alone, started, table_without_loss, without_loss}
 use Rattle.machine.specs.Standing.{NumbersAscend, may_miss}
@@ -167,27 +168,26 @@ all_valid s (u ∷ us) h =
     let parts = either_none (invalid_in s u.0) (invalid s (map (λ table. table.0) us)) h in
     (parts.0, all_valid s us parts.1)
 
-valid_rows : (found : Option Table) (rows : List Kept) (more : Table → Option Cause) → option_and_then (λ table. option_or (first_some (new_half_cause table) rows) (more table)) found ≡ None → Each (λ row. side_cause found row.key row.halves.new ≡ None) rows
-valid_rows None rows more h = every_row rows
+valid_rows : ValidRowsHaveNoCause → (found : Option Table) (rows : List Kept) → option_and_then (λ table. broken_constraint table rows) found ≡ None → Each (λ row. side_cause found row.key row.halves.new ≡ None) rows
+valid_rows valid None rows h = every_row rows
   where
     every_row : (rows : List Kept) → Each (λ (row : Kept). side_cause None row.key row.halves.new ≡ None) rows
     every_row [] = tt
     every_row (row ∷ rows) = (refl, every_row rows)
-valid_rows (Some table) rows more h = none_first (new_half_cause table) rows (either_none (first_some (new_half_cause table) rows) (more table) h).0
+valid_rows valid (Some table) rows h = none_first (new_half_cause table) rows (valid table rows h).0
 
-completed_sound : (s : State) (name : List ℕ) (schema : Schema) (fates : List (ℕ × Fate)) → s.mode ≡ Both name schema fates →
+completed_sound : Below → (s : State) (name : List ℕ) (schema : Schema) (fates : List (ℕ × Fate)) → s.mode ≡ Both name schema fates →
     (u : Rows) → IsFound s.tables u → invalid_in s u.0 ≡ None → Each (IsSoundHalf by_completing name schema fates s u.0) u.1
-completed_sound s name schema fates is u found valid =
+completed_sound below s name schema fates is u found valid =
     let rows : rows_of s u.0 ≡ u.1 = ap (λ f. option_map_or (λ (table : Rows). table.1) f []) found in
-    let more : Table → Option Cause = λ table. clashes_on (Some table) New (rows_of s u.0) (keys_of (rows_of s u.0)) in
-    let each_valid = valid_rows (table_on s New u.0) (rows_of s u.0) more valid in
+    let each_valid = valid_rows below.valid (table_on s New u.0) (rows_of s u.0) valid in
     let at_rows = subst (λ rows. Each (λ (row : Kept). side_cause (table_on s New u.0) row.key row.halves.new ≡ None) rows) rows each_valid in
     subst (λ table. Each (λ (row : Kept). side_cause table row.key row.halves.new ≡ None) u.1) (on_new s name schema fates is u.0) at_rows
 
-pub completed_lawful : (s : State) (name : List ℕ) (schema : Schema) (fates : List (ℕ × Fate)) → s.mode ≡ Both name schema fates → NumbersAscend (numbers_of s) → RowsLawful s → invalid s (numbers_of s) ≡ None → RowsLawful (standing_alone by_completing name schema fates s)
-completed_lawful s name schema fates is ascend h valid =
+pub completed_lawful : Below → (s : State) (name : List ℕ) (schema : Schema) (fates : List (ℕ × Fate)) → s.mode ≡ Both name schema fates → NumbersAscend (numbers_of s) → RowsLawful s → invalid s (numbers_of s) ≡ None → RowsLawful (standing_alone by_completing name schema fates s)
+completed_lawful below s name schema fates is ascend h valid =
     alone_lawful by_completing name schema fates s h
-    (each_both (IsFound s.tables) (λ u. invalid_in s u.0 ≡ None) (λ u. Each (IsSoundHalf by_completing name schema fates s u.0) u.1) (completed_sound s name schema fates is) s.tables (each_found s.tables ascend) (all_valid s s.tables valid))
+    (each_both (IsFound s.tables) (λ u. invalid_in s u.0 ≡ None) (λ u. Each (IsSoundHalf by_completing name schema fates s u.0) u.1) (completed_sound below s name schema fates is) s.tables (each_found s.tables ascend) (all_valid s s.tables valid))
 
 -- ---- ROLLBACK
 

@@ -1,8 +1,7 @@
 -- Tables keep their unique constraints through every step.
 use Rattle.std.proofs.Common.{◌≡◌, ◌∙◌, ℕ, ℤ, List, [], ◌∷◌, true, false, Option, Some, None, map, filter, ap, refl, sym, subst, true≢false, option_map, option_and_then, if◌then◌else◌}
 use Rattle.std.specs.List.{AllByRecursion as Each, cons_option}
-use Rattle.std.specs.Option.{option_map_or, option_or}
-use Rattle.sql_base.specs.Laws.{either_none}
+use Rattle.std.specs.Option.{option_map_or}
 use Rattle.sql_base.specs.declared.shapes.Schema.{Schema}
 use Rattle.sql_base.specs.declared.shapes.Unique.{Unique}
 use Rattle.mig_lens.specs.Lens.{unfilled}
@@ -18,12 +17,14 @@ use Rattle.row_rules.specs.Accept.{clashes_on, keys_of, present, unique_cause}
 use Rattle.row_rules.specs.Changes.{after_changes, keys_changed}
 use Rattle.row_rules.specs.Outcome.{first_some}
 use Rattle.row_rules.specs.Site.{half, other, shape_of}
-use Rattle.row_rules.specs.Steps.{begun_half, begun_row, new_half_cause}
+use Rattle.row_rules.specs.Laws.{ValidRowsHaveNoCause}
+use Rattle.row_rules.specs.Steps.{begun_half, begun_row, invalid as broken_constraint}
+use Rattle.machine.specs.Below.{Below}
 use Rattle.machine.specs.Lawful.{HasNoClash}
 use Rattle.machine.specs.Migrate.{Ending, begun_table, by_completing, by_rolling_back, created_tables, invalid, invalid_in, numbers_of, staying_row, staying_table, standing_alone, started, table_without_loss, without_loss}
 use Rattle.machine.specs.Standing.{Ascends, NumbersAscend, may_miss}
 use Rattle.machine.specs.State.{lens_among, rows_of, shared, table_on, with_rows}
-use Rattle.machine.specs.Words.{Both, Cause, Change, Kept, State}
+use Rattle.machine.specs.Words.{Both, Change, Kept, State}
 use Rattle.machine.proofs.Clashes.{Quiet, changed_without_clash, no_cause}
 use Rattle.machine.proofs.Alone.{stays}
 use Rattle.machine.proofs.Joining.{on_new, pair_of}
@@ -149,23 +150,23 @@ module _ (ending : Ending) (name : List ℕ) (schema : Schema) (fates : List (�
 
 -- ---- COMPLETE
 
-valid_clashes : (found : Option Table) (causes : Table → Option Cause) (rows : List Kept) → option_and_then (λ table. option_or (causes table) (clashes_on (Some table) New rows (keys_of rows))) found ≡ None → clashes_on found New rows (keys_of rows) ≡ None
-valid_clashes None causes rows h = refl
-valid_clashes (Some table) causes rows h = (either_none (causes table) (clashes_on (Some table) New rows (keys_of rows)) h).1
+valid_clashes : ValidRowsHaveNoCause → (found : Option Table) (rows : List Kept) → option_and_then (λ table. broken_constraint table rows) found ≡ None → clashes_on found New rows (keys_of rows) ≡ None
+valid_clashes valid None rows h = refl
+valid_clashes valid (Some table) rows h = (valid table rows h).1
 
-completed_apart : (s : State) (name : List ℕ) (schema : Schema) (fates : List (ℕ × Fate)) → s.mode ≡ Both name schema fates →
+completed_apart : Below → (s : State) (name : List ℕ) (schema : Schema) (fates : List (ℕ × Fate)) → s.mode ≡ Both name schema fates →
     (u : Rows) → IsFound s.tables u → invalid_in s u.0 ≡ None → IsApart by_completing name schema fates s u
-completed_apart s name schema fates is u found valid =
+completed_apart below s name schema fates is u found valid =
     let rows : rows_of s u.0 ≡ u.1 = ap (λ f. option_map_or (λ (table : Rows). table.1) f []) found in
-    let quiet = valid_clashes (table_on s New u.0) (λ table. first_some (new_half_cause table) (rows_of s u.0)) (rows_of s u.0) valid in
+    let quiet = valid_clashes below.valid (table_on s New u.0) (rows_of s u.0) valid in
     let at_rows = subst (λ rows. clashes_on (table_on s New u.0) New rows (keys_of rows) ≡ None) rows quiet in
     subst (λ table. clashes_on table New u.1 (keys_of u.1) ≡ None) (on_new s name schema fates is u.0) at_rows
 
-pub completed_unique : (s : State) (name : List ℕ) (schema : Schema) (fates : List (ℕ × Fate)) → s.mode ≡ Both name schema fates → NumbersAscend (numbers_of s) → invalid s (numbers_of s) ≡ None →
+pub completed_unique : Below → (s : State) (name : List ℕ) (schema : Schema) (fates : List (ℕ × Fate)) → s.mode ≡ Both name schema fates → NumbersAscend (numbers_of s) → invalid s (numbers_of s) ≡ None →
     Each (HasNoClash (standing_alone by_completing name schema fates s)) (standing_alone by_completing name schema fates s).tables
-completed_unique s name schema fates is ascend valid =
+completed_unique below s name schema fates is ascend valid =
     alone_unique by_completing name schema fates s
-    (each_both (IsFound s.tables) (λ u. invalid_in s u.0 ≡ None) (IsApart by_completing name schema fates s) (completed_apart s name schema fates is) s.tables (each_found s.tables ascend) (all_valid s s.tables valid))
+    (each_both (IsFound s.tables) (λ u. invalid_in s u.0 ≡ None) (IsApart by_completing name schema fates s) (completed_apart below s name schema fates is) s.tables (each_found s.tables ascend) (all_valid s s.tables valid))
 
 -- ---- ROLLBACK
 

@@ -1,7 +1,7 @@
 -- The laws of the layers below that the laws of this one rest on.
 use Rattle.sql_eval.specs.Laws.{TypedIsSound}
 use Rattle.mig_lens.specs.Laws.{BackwardCarries, BackwardFits, ForwardCarries, ForwardFits}
-use Rattle.row_rules.specs.Laws.{ChangesKeepOrder}
+use Rattle.row_rules.specs.Laws.{ChangesKeepOrder, ValidRowsHaveNoCause}
 use Rattle.mig_plan.specs.Laws.{CreatedTablesAreNumbered, PlannedFatesStand, PlansKeepSchemas, PlansStayBelow, TablesHaveFates}
 
 pub record Below : Type 0 where
@@ -12,6 +12,7 @@ pub record Below : Type 0 where
   pub backward_carries : BackwardCarries
   -- rows
   pub order : ChangesKeepOrder
+  pub valid : ValidRowsHaveNoCause
   -- plans
   pub schemas : PlansKeepSchemas
   pub fates : PlannedFatesStand

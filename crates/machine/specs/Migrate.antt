@@ -17,7 +17,7 @@ use Rattle.phase_steps.specs.Phases.{may_fill, may_start}
 use Rattle.row_rules.specs.Changes.{cause_together, changes}
 use Rattle.row_rules.specs.Rows.{rows_at}
 use Rattle.row_rules.specs.Site.{half, name_of, number_of, other}
-use Rattle.row_rules.specs.Steps.{begun_row, invalid_cause, show_heavy}
+use Rattle.row_rules.specs.Steps.{begun_row, invalid as broken_constraint, show_heavy}
 use Rattle.machine.specs.Done.{CommandOutcome, Done, Started, Stepped, answered}
 use Rattle.machine.specs.State.{Shared, filling_site, lens_among, missing_keys, rows_of, shared, table_on}
 use Rattle.machine.specs.Statement.{changed}
@@ -154,14 +154,16 @@ not_filled_in s number =
 abbrev pub not_filled : State → List ℕ → Option Refusal
 not_filled s numbers = first_some (not_filled_in s) numbers
 
-abbrev pub not_valid : Cause → Refusal
-not_valid cause = NotValid (unwrap_or cause.name []) cause.key
+-- P5: a constraint isn't met, with a key.
+abbrev pub not_valid : List ℕ × ℤ → Refusal
+not_valid broken = NotValid broken.0 broken.1
 
--- P5 of one table that the new version has.
-abbrev pub invalid_in : State → ℕ → Option Cause
-invalid_in s number = option_and_then (λ table. invalid_cause table (rows_of s number)) (table_on s New number)
+-- The constraint that the rows of a table don't meet, where the new version has the table.
+abbrev pub invalid_in : State → ℕ → Option (List ℕ × ℤ)
+invalid_in s number = option_and_then (λ table. broken_constraint table (rows_of s number)) (table_on s New number)
 
-abbrev pub invalid : State → List ℕ → Option Cause
+-- Of the first table that isn't valid.
+abbrev pub invalid : State → List ℕ → Option (List ℕ × ℤ)
 invalid s numbers = first_some (invalid_in s) numbers
 
 abbrev pub numbers_of : State → List ℕ

@@ -10,7 +10,7 @@ use crate::states::{Mode, State};
 use crate::staying::{Ending, standing_alone, without_loss};
 use crate::tables::{rows_of, shared, table_on};
 use mig_lens::{Fate, Kind, Refusal, Side};
-use row_rules::{Cause, Stop, invalid_cause, least_missing};
+use row_rules::{Stop, least_missing};
 use sql_base::{Copying, Name, NoMemory, Schema};
 use std::alloc::Global;
 
@@ -42,22 +42,22 @@ fn not_filled(alloc: Global, s: &State) -> Result<Option<Refusal>, NoMemory>
 
 // ---- rows that don't meet a constraint
 
-fn invalid_in(alloc: Global, s: &State, number: u32) -> Result<Option<Cause>, NoMemory>
-    ensures { IfOk result (λ cause. cause ≡ spec.invalid_in s.now number) }
+fn invalid_in(alloc: Global, s: &State, number: u32) -> Result<Option<(Name, i64)>, NoMemory>
+    ensures { IfOk result (λ broken. broken ≡ spec.invalid_in s.now number) }
 {
     match table_on(s, Side::New, number) {
-        Some(table) => invalid_cause(alloc, table, &rows_of(s, number)),
+        Some(table) => row_rules::invalid(alloc, table, &rows_of(s, number)),
         None => Ok(None),
     }
 }
 
-// Why the first table isn't valid that isn't.
-fn invalid(alloc: Global, s: &State) -> Result<Option<Cause>, NoMemory>
-    ensures { IfOk result (λ cause. cause ≡ spec.invalid s.now (spec.numbers_of s.now)) }
+// Of the first table that isn't valid.
+fn invalid(alloc: Global, s: &State) -> Result<Option<(Name, i64)>, NoMemory>
+    ensures { IfOk result (λ broken. broken ≡ spec.invalid s.now (spec.numbers_of s.now)) }
 {
     for table in s.tables.as_slice() {
-        if let Some(cause) = invalid_in(alloc, s, table.0)? {
-            return Ok(Some(cause));
+        if let Some(broken) = invalid_in(alloc, s, table.0)? {
+            return Ok(Some(broken));
         }
     }
     Ok(None)
@@ -70,7 +70,7 @@ fn may_not_complete(alloc: Global, s: &State) -> Result<Option<Refusal>, NoMemor
         return Ok(Some(refusal));
     }
     match invalid(alloc, s)? {
-        Some(cause) => Ok(Some(not_valid(alloc, &cause)?)),
+        Some(broken) => Ok(Some(not_valid(broken))),
         None => Ok(None),
     }
 }

@@ -6,10 +6,10 @@ use mig_lens::laws::{carried_columns_keep_their_values, made_halves_fit};
 use mig_plan::laws::{
     created_tables_are_numbered, planned_schemas_are_well_formed, planned_tables_have_fates,
 };
-use row_rules::laws::changes_keep_order;
+use row_rules::laws::{changes_keep_order, valid_rows_have_no_cause};
 use sql_eval::laws::typed_values_are_of_their_types;
 
-// What the layers below say of values, of lenses and of plans.
+// What the layers below say of values, of lenses, of rows and of plans.
 fn laws_below()
     ensures { Below }
 {
@@ -17,6 +17,7 @@ fn laws_below()
     made_halves_fit();
     carried_columns_keep_their_values();
     changes_keep_order();
+    valid_rows_have_no_cause();
     planned_schemas_are_well_formed();
     planned_tables_have_fates();
     created_tables_are_numbered();

@@ -22,12 +22,10 @@ pub fn refused_batch(alloc: Global, table: &Name, cause: &Cause) -> Result<Refus
     Ok(Refusal::BackfillRefused(table.copy(alloc)?, cause.key, cause.code))
 }
 
-/// P5: a row can't stand in the new version alone.
-pub fn not_valid(alloc: Global, cause: &Cause) -> Result<Refusal, NoMemory>
-    ensures { IfOk result (λ refusal. refusal ≡ spec.not_valid cause.now) }
+/// P5: a row of this key doesn't meet the constraint of this name.
+pub fn not_valid(broken: (Name, i64)) -> Refusal
+    ensures { result ≡ spec.not_valid broken }
 {
-    match &cause.name {
-        Some(name) => Ok(Refusal::NotValid(name.copy(alloc)?, cause.key)),
-        None => Ok(Refusal::NotValid(Name::from_slice(alloc, b"")?, cause.key)),
-    }
+    let (name, key) = broken;
+    Refusal::NotValid(name, key)
 }

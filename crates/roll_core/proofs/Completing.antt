@@ -1,7 +1,7 @@
 -- Whether the rows allow that a migration is completed, and what its first step leaves then.
 use Rattle.roll_core.proofs.Words.{ℤ, Each, Below, meaning, ◌≡◌, ◌∙◌, ℕ, List, [], ◌∷◌, Bool, true, false, Option, Some, None, Ok, Err, is_some, map, ap, refl, sym, subst, option_map, rows_of}
 use Rattle.roll_core.proofs.Words.{option_and_then, if◌then◌else◌, slice_get, AllByRecursion, option_map_or, option_or, either_none, Value, least, Kind, Refusal, NotFilled, Unfinished, Kept}
-use Rattle.roll_core.proofs.Words.{first_some, without, name_of, invalid_cause, State, complete, finish, not_valid, numbers_of, stepped, tidied, CommandOutcome, Complete, IsState, Shared, active_name, shared}
+use Rattle.roll_core.proofs.Words.{first_some, without, name_of, broken_constraint, State, complete, finish, not_valid, numbers_of, stepped, tidied, CommandOutcome, Complete, IsState, Shared, active_name, shared}
 use Rattle.roll_core.proofs.Words.{table_on, New, Old, Pair, IsPair, IsLaidRow, IsPairedRow, PairedRowsAreLaid, is_marked, new_view, old_view, Paired, Left, meant, numbers_in, AreKept, Goes}
 use Rattle.roll_core.proofs.Words.{invalid_in, left_parts, may_not_complete, not_filled_in, IsStored, IsStoredRow, IsStoredTable, Stored, StoredRow, StoredTable, by_completing, kept, pair_over, rows_meant}
 use Rattle.roll_core.proofs.Words.{staying_row, standing_alone, table_meant}
@@ -21,7 +21,7 @@ filled_same frame all table r =
     ≡ option_and_then (λ both. least_of both (missing_keys (rows_meant table))) both) [ None ↦ refl | Some both ↦ ap (λ (rows : List Kept). least_of both (missing_keys rows)) r ]
 
 valid_same : (frame : State) (all : List StoredTable) (table : StoredTable) → rows_of (meant frame all) table.number ≡ rows_meant table → migrate.invalid_in (meant frame all) table.number ≡ invalid_in frame table
-valid_same frame all table r = ap (λ (rows : List Kept). option_and_then (λ newer. invalid_cause newer rows) (table_on frame New table.number)) r
+valid_same frame all table r = ap (λ (rows : List Kept). option_and_then (λ newer. broken_constraint newer rows) (table_on frame New table.number)) r
 
 -- The tables have the rows that the state has.
 abbrev RowsAre : State → List StoredTable → List StoredTable → Type 0

@@ -50,7 +50,7 @@ pub use Rattle.row_rules.specs.Rows.{missing_keys as keys_missing, rows_at}
 pub use Rattle.row_rules.specs.Settle.{condition_error, delete_job, insert_job, query_error, rows_inserted, sets_settled, update_job}
 pub use Rattle.row_rules.specs.Show.{rows_shown}
 pub use Rattle.row_rules.specs.Site.{Beside, Site, half, half_beside, halves_on, is_missing, key_of, name_of, number_of, other, other_half, shape_of, shown, touched, touched_by}
-pub use Rattle.row_rules.specs.Steps.{begun_row, invalid_cause}
+pub use Rattle.row_rules.specs.Steps.{begun_row, invalid as broken_constraint}
 pub use Rattle.row_rules.specs.declared.kinds.Change.TheVariants.{Put, Remove}
 pub use Rattle.row_rules.specs.declared.stops.Stop.{Stop}
 pub use Rattle.row_rules.specs.declared.stops.Stop.TheVariants.{Because, NoMemory}

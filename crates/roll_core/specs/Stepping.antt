@@ -1,5 +1,5 @@
 -- What the steps of a migration leave of what is stored, and what its commands are promised.
-use Rattle.std.specs.Prelude.{◌≡◌, false, ℕ, ◌+◌, Bool, List, [], ◌++◌, Option, None, Some, Result, Ok, Err, is_some, length, map, not, ◌==◌, if◌then◌else◌}
+use Rattle.std.specs.Prelude.{◌≡◌, false, ℕ, ℤ, ◌+◌, Bool, List, [], ◌++◌, Option, None, Some, Result, Ok, Err, is_some, length, map, not, ◌==◌, if◌then◌else◌}
 use Rattle.std.specs.List.{AllByRecursion, filter, filter_map}
 use Rattle.std.specs.Option.{option_and_then, option_map, option_or}
 use Rattle.sql_base.specs.Outcome.{and_then}
@@ -15,7 +15,7 @@ use Rattle.mig_lens.specs.Plan.{created_in, table_numbered}
 use Rattle.row_rules.specs.Outcome.{first_some, guarded, without}
 use Rattle.row_rules.specs.Rows.{missing_keys}
 use Rattle.row_rules.specs.Site.{name_of, other}
-use Rattle.row_rules.specs.Steps.{invalid_cause}
+use Rattle.row_rules.specs.Steps.{invalid as broken_constraint}
 use Rattle.sql_eval.specs.Row.{least}
 use Rattle.row_rules.specs.declared.stops.Stop.{Stop}
 use Rattle.row_rules.specs.declared.stops.Stop.TheVariants.{Because, NoMemory}
@@ -29,7 +29,7 @@ use Rattle.machine.specs.State.{Shared, lens_among, shared, table_on}
 use Rattle.machine.specs.Laws.{leaves_all}
 use Rattle.machine.specs.declared.events.Asked.{Asked}
 use Rattle.machine.specs.declared.events.Asked.TheVariants.{Read as Migrates, Refused as NotRead}
-use Rattle.machine.specs.Words.{Cause, New, Old, Side}
+use Rattle.machine.specs.Words.{New, Old, Side}
 use Rattle.roll_core.specs.declared.commands.Cmd.{Cmd}
 use Rattle.roll_core.specs.declared.commands.Cmd.TheVariants.{Start, Complete, Rollback}
 use Rattle.trigger_pair.specs.declared.pairs.Pair.{Pair}
@@ -121,13 +121,14 @@ begun_frame frame name plan = record frame {
 
 -- ---- whether a migration may be completed
 
--- Why the rows of a table that the frame has can't stand in the new version alone: P4 and P5.
+-- The least key that is still to be filled, of a table that the frame has: P4.
 abbrev pub not_filled_in : State → StoredTable → Option Refusal
 not_filled_in frame table =
     option_and_then (λ both. option_map (λ key. NotFilled (name_of both.new) key) (least (missing_keys (rows_meant table)))) (shared frame table.number)
 
-abbrev pub invalid_in : State → StoredTable → Option Cause
-invalid_in frame table = option_and_then (λ newer. invalid_cause newer (rows_meant table)) (table_on frame New table.number)
+-- The constraint of the new version that the rows of a table that the frame has don't meet, with a key: P5.
+abbrev pub invalid_in : State → StoredTable → Option (List ℕ × ℤ)
+invalid_in frame table = option_and_then (λ newer. broken_constraint newer (rows_meant table)) (table_on frame New table.number)
 
 abbrev pub may_not_complete : State → List StoredTable → Option Refusal
 may_not_complete frame tables =

@@ -17,8 +17,8 @@ use crate::tidying::tidied_tables;
 use machine::parts::{not_valid, shared, table_on};
 use machine::{Mode, Reply, State};
 use mig_lens::{Kind, Refusal, Side};
-use row_rules::{Cause, Stop, invalid_cause, least_missing};
-use sql_base::{Copying, List, NoMemory};
+use row_rules::{Stop, least_missing};
+use sql_base::{Copying, List, Name, NoMemory};
 use std::alloc::Global;
 
 // ---- whether the migration may be completed
@@ -56,22 +56,30 @@ fn not_filled(
     Ok(None)
 }
 
-// Why the rows of the table can't stand in the new version alone.
-fn invalid_in(alloc: Global, frame: &State, table: &StoredTable) -> Result<Option<Cause>, NoMemory>
-    ensures { IfOk result (λ cause. cause ≡ spec.invalid_in frame.now (seen table.now)) }
+// The constraint of the new version that the table's rows don't meet, with a key.
+fn invalid_in(
+    alloc: Global,
+    frame: &State,
+    table: &StoredTable,
+) -> Result<Option<(Name, i64)>, NoMemory>
+    ensures { IfOk result (λ broken. broken ≡ spec.invalid_in frame.now (seen table.now)) }
 {
     match table_on(frame, Side::New, table.number) {
-        Some(newer) => invalid_cause(alloc, newer, table),
+        Some(newer) => row_rules::invalid(alloc, newer, table),
         None => Ok(None),
     }
 }
 
-fn invalid(alloc: Global, frame: &State, tables: &[StoredTable]) -> Result<Option<Cause>, NoMemory>
-    ensures { IfOk result (λ cause. cause ≡ first_some (spec.invalid_in frame.now) (map seen tables.now)) }
+fn invalid(
+    alloc: Global,
+    frame: &State,
+    tables: &[StoredTable],
+) -> Result<Option<(Name, i64)>, NoMemory>
+    ensures { IfOk result (λ broken. broken ≡ first_some (spec.invalid_in frame.now) (map seen tables.now)) }
 {
     for table in tables {
-        if let Some(cause) = invalid_in(alloc, frame, table)? {
-            return Ok(Some(cause));
+        if let Some(broken) = invalid_in(alloc, frame, table)? {
+            return Ok(Some(broken));
         }
     }
     Ok(None)
@@ -88,7 +96,7 @@ fn may_not_complete(
         return Ok(Some(refusal));
     }
     match invalid(alloc, frame, tables)? {
-        Some(cause) => Ok(Some(not_valid(alloc, &cause)?)),
+        Some(broken) => Ok(Some(not_valid(broken))),
         None => Ok(None),
     }
 }

@@ -1,6 +1,9 @@
 -- The indexes of a side are those of the rows, before and after changes.
-use Rattle.std.proofs.Common.{◌≡◌, ◌≤◌, ◌∙◌, ℕ, zero, suc, ℤ, List, [], ◌∷◌, ◌++◌, Bool, true, false, ◌&&◌, ◌||◌, cond, not, Option, Some, None, refl, ap, sym, map, subst, drop, length, append_assoc, append-nil, int_cmp, arith}
-use Rattle.std.specs.Prelude.{is_some}
+use Rattle.std.proofs.Common.{◌≡◌, ◌≤◌, ◌∙◌, ℕ, ℤ, List, [], ◌∷◌, ◌++◌, Bool, true, false, ◌&&◌, ◌||◌, cond, not, Option, Some, None, refl, ap, sym, map, subst, drop, length, append_assoc, append-nil, int_cmp, arith}
+use Rattle.std.specs.Prelude.{is_some, nat_eq, slice_index_or}
+use Rattle.std.specs.Cmp.Lexicographic.{pointwise}
+use Rattle.std.proofs.lemmas.Slice.Eq.{bytes_eq-Decides}
+use Rattle.sql_base.specs.declared.values.Value.TheVariants.{Null}
 use Rattle.std.specs.FinMap as finite
 use Rattle.std.specs.List.{cons_option, filter, list_any}
 use Rattle.std.specs.Map.{keys_of}
@@ -22,7 +25,7 @@ use Rattle.row_rules.specs.declared.kinds.Change.{Change}
 use Rattle.row_rules.specs.declared.kinds.Change.TheVariants.{Put, Remove}
 use Rattle.row_rules.specs.declared.kinds.Kept.{Kept}
 use Rattle.row_index.specs.Changes.{index_change, index_changes, put_all, put_change, row_change}
-use Rattle.row_index.specs.Indexes.{AreIndexed, has_beside}
+use Rattle.row_index.specs.Indexes.{AreIndexed, entries_for, has_beside}
 use Rattle.row_index.specs.Laws.{ChangesAreInIndex, ChangesAreIndexed, OthersAreThoseOfRows, PreparedHaveRoom}
 use Rattle.row_index.specs.declared.changes.IndexChange.TheVariants as indexed
 use Rattle.row_index.proofs.Present.{put_last, put_missing, put_present, removed_present}
@@ -161,12 +164,27 @@ module _ (unique : Unique) (side : Side) (values : List Value) (keys : List ℤ)
       → has_beside unique values keys entries ≡ list_any (other_alike unique side values keys) rows
   others_in_index rows entries has = ap (λ es. is_some (least (keys_of (filter passes es)))) has ∙ others_of_rows rows
 
+-- Constraints of the same columns have the same values of a row.
+same_indexed : (unique other : Unique) (rows : List (ℤ × List Value)) (entries : Entries) → other.columns ≡ unique.columns
+    → Indexes other rows entries → Indexes unique rows entries
+same_indexed unique other rows entries same has =
+    has ∙ ap (λ (columns : List ℕ). map (λ row. (row.0, map (λ at. slice_index_or row.1 at Null) columns)) rows) same
+
 pub others_are_those_of_rows : OthersAreThoseOfRows
-others_are_those_of_rows [] side rows all at unique values keys have there = absurd (cc)
-others_are_those_of_rows (first ∷ uniques) side rows [] at unique values keys have there = absurd have
-others_are_those_of_rows (first ∷ uniques) side rows (entries ∷ all) zero unique values keys have there =
-    let same : first ≡ unique = some_same first unique there in
-    others_in_index unique side values keys rows entries
-    (subst (λ unique. Indexes unique (present side rows) entries) same have.0)
-others_are_those_of_rows (first ∷ uniques) side rows (entries ∷ all) (suc at) unique values keys have there =
-    others_are_those_of_rows uniques side rows all at unique values keys have.1 there
+others_are_those_of_rows unique side rows [] all entries values keys have there = absurd (cc)
+others_are_those_of_rows unique side rows (first ∷ uniques) [] entries values keys have there = absurd (cc)
+others_are_those_of_rows unique side rows (first ∷ uniques) (index ∷ all) entries values keys have there =
+    by_columns (pointwise nat_eq first.columns unique.columns) refl there
+    (others_are_those_of_rows unique side rows uniques all entries values keys have.1)
+  where
+    Answers : Type 0
+    Answers = has_beside unique values keys entries ≡ list_any (other_alike unique side values keys) rows
+
+    by_columns : (b : Bool) → pointwise nat_eq first.columns unique.columns ≡ b
+        → cond b (Some index) (entries_for unique uniques all) ≡ Some entries
+        → (entries_for unique uniques all ≡ Some entries → Answers) → Answers
+    by_columns true is found later =
+        others_in_index unique side values keys rows entries
+        (subst (Indexes unique (present side rows)) (some_same index entries found)
+        (same_indexed unique first (present side rows) index ((bytes_eq-Decides first.columns unique.columns).0 is) have.0))
+    by_columns false is found later = later found

@@ -1,6 +1,8 @@
 -- One index after another, and one change after another.
-use Rattle.std.proofs.Common.{◌≡◌, ◌≤◌, ◌<◌, ◌+◌, ◌∙◌, ◌++◌, ℕ, zero, suc, List, [], ◌∷◌, refl, ap, sym, subst, take, drop, length, map, arith, add-one}
-use Rattle.std.specs.Prelude.{Some, slice_get, slice_index_or, slice_set}
+use Rattle.std.proofs.Common.{◌≡◌, ◌≤◌, ◌<◌, ◌+◌, ◌∙◌, ◌++◌, ℕ, zero, suc, List, [], ◌∷◌, true, false, refl, ap, sym, subst, take, drop, length, map, arith, add-one}
+use Rattle.std.specs.Cmp.Lexicographic.{pointwise}
+use Rattle.std.proofs.Math.Seq.{drop-nil}
+use Rattle.std.specs.Prelude.{None, Some, cond, nat_eq, slice_get, slice_index_or, slice_set}
 use Rattle.std.specs.List.{AllByRecursion}
 use Rattle.std.proofs.lemmas.List.{drop_all, map-append, take-append-drop, take_more_set}
 use Rattle.sql_base.specs.Laws.{some_same}
@@ -10,7 +12,7 @@ use Rattle.uniq_index.specs.Indexed.{Entries, Indexed}
 use Rattle.row_rules.specs.declared.kinds.Change.{Change}
 use Rattle.row_rules.specs.declared.kinds.Kept.{Kept}
 use Rattle.row_index.specs.Changes.{index_changes, prepared, put_all, put_change, put_each, row_change}
-use Rattle.row_index.specs.Indexes.{entries_of}
+use Rattle.row_index.specs.Indexes.{entries_for, entries_of}
 use Rattle.row_index.specs.declared.changes.IndexChange.{IndexChange}
 
 -- ---- changes to one index
@@ -97,3 +99,53 @@ prepared_step (first ∷ uniques) side changes (suc at) unique d h is =
     let next : drop (suc at + 1) (first ∷ uniques) ≡ drop (at + 1) uniques = rw (add-one, add-one) refl in
     prepared_step uniques side changes at unique d (omega arith) is
     ∙ ap (λ rest. index_changes side changes unique ∷ prepared rest side changes) (sym next)
+
+-- ---- the index of a constraint's columns
+
+none_without : (unique : Unique) (uniques : List Unique) → entries_for unique uniques [] ≡ None
+none_without unique [] = refl
+none_without unique (other ∷ uniques) = refl
+
+-- A constraint of other columns is passed.
+pub passed_by : (unique first d : Unique) (uniques : List Unique) (indexes : List Indexed) (at : ℕ)
+    → at < length uniques → first ≡ slice_index_or uniques at d
+    → pointwise nat_eq first.columns unique.columns ≡ false
+    → entries_for unique (drop (at + 1) uniques) (entries_of (drop (at + 1) indexes))
+    ≡ entries_for unique (drop at uniques) (entries_of (drop at indexes))
+passed_by unique first d [] indexes at h is differ = absurd (omega (arith, h))
+passed_by unique first d (other ∷ uniques) [] at h is differ =
+    ap (λ left. entries_for unique (drop (at + 1) (other ∷ uniques)) (entries_of left)) (drop-nil (at + 1))
+    ∙ none_without unique (drop (at + 1) (other ∷ uniques)) ∙ sym (none_without unique (drop at (other ∷ uniques)))
+    ∙ ap (λ left. entries_for unique (drop at (other ∷ uniques)) (entries_of left)) (sym (drop-nil at))
+passed_by unique first d (other ∷ uniques) (index ∷ indexes) zero h is differ =
+    sym (ap (λ b. cond b (Some index.entries) (entries_for unique uniques (entries_of indexes))) (ap (λ (u : Unique). pointwise nat_eq u.columns unique.columns) (sym is) ∙ differ))
+passed_by unique first d (other ∷ uniques) (index ∷ indexes) (suc at) h is differ =
+    let more : drop (suc at + 1) (other ∷ uniques) ≡ drop (at + 1) uniques = rw (add-one, add-one) refl in
+    let rest : drop (suc at + 1) (index ∷ indexes) ≡ drop (at + 1) indexes = rw (add-one, add-one) refl in
+    ap (λ left. entries_for unique left (entries_of (drop (suc at + 1) (index ∷ indexes)))) more
+    ∙ ap (λ left. entries_for unique (drop (at + 1) uniques) (entries_of left)) rest
+    ∙ passed_by unique first d uniques indexes at (omega (arith, h)) is differ
+
+-- The index of one of these columns is the one at its place, where there is one.
+pub found_at : (unique first d : Unique) (uniques : List Unique) (indexes : List Indexed) (at : ℕ) (index e : Indexed)
+    → at < length uniques → first ≡ slice_index_or uniques at d
+    → pointwise nat_eq first.columns unique.columns ≡ true → at < length indexes → index ≡ slice_index_or indexes at e
+    → entries_for unique (drop at uniques) (entries_of (drop at indexes)) ≡ Some index.entries
+found_at unique first d [] indexes at index e h is same i there = absurd (omega (arith, h))
+found_at unique first d (other ∷ uniques) [] at index e h is same i there = absurd (omega (arith, i))
+found_at unique first d (other ∷ uniques) (one ∷ indexes) zero index e h is same i there =
+    ap (λ b. cond b (Some one.entries) (entries_for unique uniques (entries_of indexes))) (ap (λ (u : Unique). pointwise nat_eq u.columns unique.columns) (sym is) ∙ same)
+    ∙ ap (λ (index : Indexed). Some index.entries) (sym there)
+found_at unique first d (other ∷ uniques) (one ∷ indexes) (suc at) index e h is same i there =
+    found_at unique first d uniques indexes at index e (omega (arith, h)) is same (omega (arith, i)) there
+
+pub none_at : (unique : Unique) (uniques : List Unique) (indexes : List Indexed) (at : ℕ) → length indexes ≤ at
+    → entries_for unique (drop at uniques) (entries_of (drop at indexes)) ≡ None
+none_at unique uniques indexes at past =
+    ap (λ left. entries_for unique (drop at uniques) (entries_of left)) (drop_all at indexes past)
+    ∙ none_without unique (drop at uniques)
+
+-- Where no constraint is left none is found.
+pub none_left : (unique : Unique) (uniques : List Unique) (all : List Entries) (at : ℕ) → length uniques ≤ at
+    → entries_for unique (drop at uniques) all ≡ None
+none_left unique uniques all at past = ap (λ left. entries_for unique left all) (drop_all at uniques past)

@@ -11,7 +11,8 @@ pub fn changes_are_indexed()
     uniq_index::laws::changes_are_indexed();
 }
 
-/// The index at a place has values under another key exactly where another row has a half with these values.
+/// Where there is an index of a constraint's columns, it has values under another key exactly where another row has a half
+/// with these values.
 pub fn others_are_those_of_rows()
     ensures { laws.OthersAreThoseOfRows }
 {}

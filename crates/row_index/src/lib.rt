@@ -10,5 +10,5 @@ mod changes;
 mod index;
 pub mod laws;
 
-pub use changes::{IndexChange, prepare};
+pub use changes::IndexChange;
 pub use index::SideIndex;

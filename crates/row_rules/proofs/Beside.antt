@@ -430,10 +430,6 @@ alone : (rows : List Kept) (keys : List ℤ) → Same rows [] rows keys
 alone rows keys unique side = each (λ key. clashes_beside unique side rows [] keys key ≡ has_clash unique (present side rows) key) (alone_clashes unique side rows keys) keys
 
 -- Rows that are all written.
-pub on_alone : (table : Option Table) (side : Side) (rows : List Kept) (keys : List ℤ) →
-    on_beside table side rows [] keys ≡ clashes_on table side rows keys
-on_alone table side rows keys = on_same rows [] rows keys (alone rows keys) table side
-
 pub all_alone : (site : Site) (rows : List Kept) (keys : List ℤ) → all_beside site rows [] keys ≡ clashes site rows keys
 all_alone site rows keys = site_same rows [] rows keys (alone rows keys) site
 

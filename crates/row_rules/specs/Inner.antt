@@ -12,7 +12,7 @@ use Rattle.sql_base.specs.Outcome.{Gives}
 use Rattle.sql_base.specs.declared.faults.EvalFault.TheVariants as eval_fault
 use Rattle.sql_base.specs.declared.memory.NoMemory.{NoMemory}
 use Rattle.sql_eval.specs.Row.{all_alike, least, values_of}
-use Rattle.row_rules.specs.Accept.{clashes, clashes_on, is_taken, keys_of, other_alike, present, row_weight, table_there}
+use Rattle.row_rules.specs.Accept.{clashes, is_taken, keys_of, other_alike, present, row_weight, table_there}
 use Rattle.row_rules.specs.Causes.{broken_name, constraint_cause, row_code, row_error, value_cause}
 use Rattle.row_rules.specs.Changes.{after_changes, altered, keys_changed, matching, passes, put_all}
 use Rattle.row_rules.specs.Outcome.{Answers, first_some, guarded, map_fault, without}
@@ -88,9 +88,6 @@ half_broken table row = option_and_then (λ values. row_broken (name_of table) (
 -- The first unique constraint with the least key that has an equal.
 abbrev pub uniques_broken : Table → List Kept → Option (List ℕ × ℤ)
 uniques_broken table rows = first_some (unique_broken (present New rows)) (shape_of table).uniques
-
-abbrev pub new_clash : Table → List Kept → Option Cause
-new_clash table rows = clashes_on (Some table) New rows (keys_of rows)
 
 -- ---- names, types and values
 

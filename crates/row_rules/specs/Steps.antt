@@ -1,11 +1,10 @@
 -- What a migration's start and its completion look at in the rows of one table, and what they leave of each row.
-use Rattle.std.specs.Prelude.{ℕ, ℤ, List, Bool, false, Option, Some, None, nat_lt, if◌then◌else◌}
+use Rattle.std.specs.Prelude.{ℕ, ℤ, List, Bool, false, Option, None, nat_lt, if◌then◌else◌}
 use Rattle.std.specs.List.{list_any}
-use Rattle.std.specs.Option.{option_and_then, option_map, option_map_or, option_or}
+use Rattle.std.specs.Option.{option_and_then, option_map, option_map_or}
 use Rattle.constraint.specs.Valid as valid
-use Rattle.row_rules.specs.Accept.{clashes_on, half_cause, keys_of, present}
+use Rattle.row_rules.specs.Accept.{half_cause, present}
 use Rattle.row_rules.specs.Causes.{max_weight}
-use Rattle.row_rules.specs.Outcome.{first_some}
 use Rattle.row_rules.specs.Site.{name_of, shape_of}
 use Rattle.row_rules.specs.Words.{Cause, Kept, Lens, New, Table, Value, has_mark, unfilled, weight}
 
@@ -32,11 +31,6 @@ show_heavy lens rows = list_any (shows_heavy lens) rows
 abbrev pub invalid : Table → List Kept → Option (List ℕ × ℤ)
 invalid table rows = valid.invalid (name_of table) (shape_of table) (present New rows)
 
--- The first fault of a new half, by the rows' order.
+-- What is wrong with a row's new half.
 abbrev pub new_half_cause : Table → Kept → Option Cause
 new_half_cause table row = option_and_then (half_cause table row.key) row.halves.new
-
--- Why rows can't stand in the new version alone: a row's fault, then a unique constraint with the least key that has an equal.
-abbrev pub invalid_cause : Table → List Kept → Option Cause
-invalid_cause table rows =
-    option_or (first_some (new_half_cause table) rows) (clashes_on (Some table) New rows (keys_of rows))

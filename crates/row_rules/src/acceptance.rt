@@ -47,8 +47,8 @@ fn half_fault(alloc: Global, table: &Table, row: &[Value]) -> Result<Option<(Cod
     }
 }
 
-/// What is wrong with a half of a row of a table.
-pub fn half_cause(
+// What is wrong with a half of a row of a table.
+fn half_cause(
     alloc: Global,
     table: &Table,
     key: i64,
@@ -260,9 +260,9 @@ fn uniques_cause<T: TableRows>(
     Ok(None)
 }
 
-/// Why written rows of these keys aren't accepted beside each other and the older rows of other keys, through a side that
-/// may not have the table.
-pub fn clashes_on<T: TableRows>(
+// Why written rows of these keys aren't accepted beside each other and the older rows of other keys, through a side that
+// may not have the table.
+fn clashes_on<T: TableRows>(
     alloc: Global,
     table: Option<&Table>,
     side: Side,
@@ -285,7 +285,8 @@ pub fn clashes_on<T: TableRows>(
     }
 }
 
-/// The same through both sides, the written one first.
+/// Why written rows of these keys aren't accepted beside each other and the older rows of other keys, through both sides,
+/// the written one first.
 pub fn clashes<T: TableRows>(
     alloc: Global,
     site: SiteRef<'_>,

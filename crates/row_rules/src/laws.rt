@@ -1,5 +1,5 @@
 //! Laws over the definitions alone. Each is the contract of a function that does nothing.
-ghost use Rattle.row_rules.specs.Laws.{CausesNameConstraints, ChangesKeepOrder, OldShowsOldHalves, ValidRowsHaveNoCause};
+ghost use Rattle.row_rules.specs.Laws.{ChangesKeepOrder, OldShowsOldHalves, ValidRowsHaveNoCause};
 
 /// Where rows ascend by key, they do so after any changes.
 pub fn changes_keep_order()
@@ -15,9 +15,4 @@ pub fn the_old_version_shows_old_halves()
 /// one.
 pub fn valid_rows_have_no_cause()
     ensures { ValidRowsHaveNoCause }
-{}
-
-/// Why rows can't stand in the new version alone names the constraint that they don't meet, with its key.
-pub fn causes_name_constraints()
-    ensures { CausesNameConstraints }
 {}

@@ -37,6 +37,6 @@ pub use rows::{TableRows, any_missing, least_missing, missing_rows};
 pub use settling::{delete_job, query_error, update_job};
 pub use showing::{MAX_REPLY, rows_shown};
 pub use sites::{BesideRef, SiteRef};
-pub use steps::{begun_row, invalid, invalid_cause, show_heavy};
+pub use steps::{begun_row, invalid, show_heavy};
 pub use stops::Stop;
 pub use together::{after_changes, cause_together, refused_together};

@@ -12,7 +12,7 @@ use crate::halves::half;
 use crate::kinds::Kept;
 use constraint::{are_alike, with_least};
 use mig_lens::Side;
-use sql_base::{Copying, List, NoMemory, Unique, Value, try_map};
+use sql_base::{Copying, List, NoMemory, Unique, Value};
 use std::alloc::Global;
 use std::cmp::Ordering;
 
@@ -82,6 +82,20 @@ pub trait TableRows {
     /// Whether a row that has none of these keys has, in its half of this side, values like these, none of them NULL, in
     /// the columns of a unique constraint. An error is want of memory.
     fn other_alike(
+        &self,
+        alloc: Global,
+        side: Side,
+        unique: &Unique,
+        values: &[Value],
+        keys: &[i64],
+    ) -> Result<bool, NoMemory>
+        ensures { IfOk result (λ found. found ≡ list_any (accept.other_alike unique.now side values.now keys.now) (rows self.now)) }
+    {
+        self.any_alike(alloc, side, unique, values, keys)
+    }
+
+    /// The same, by a look at one row after another.
+    fn any_alike(
         &self,
         alloc: Global,
         side: Side,
@@ -245,11 +259,4 @@ pub fn all_rows<T: TableRows>(alloc: Global, rows: &T) -> Result<List<Kept>, NoM
         all.push(rows.row_at(alloc, at)?)?;
     }
     Ok(all)
-}
-
-/// The keys of rows.
-pub fn keys_of(alloc: Global, rows: &[Kept]) -> Result<List<i64>, NoMemory>
-    ensures { IfOk result (λ keys. keys ≡ accept.keys_of rows.now) }
-{
-    try_map(alloc, rows, |row| Ok(row.key))
 }

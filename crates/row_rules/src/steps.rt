@@ -9,11 +9,11 @@ ghost use Rattle.row_rules.specs.Inner as inner;
 ghost use Rattle.row_rules.specs.Outcome.{first_some};
 ghost use Rattle.row_rules.specs.Steps as spec;
 
-use crate::acceptance::{MAX_WEIGHT, clashes_on, half_broken, half_cause};
-use crate::kinds::{Cause, Halves, Kept, Table};
-use crate::rows::{TableRows, all_rows, keys_of};
+use crate::acceptance::{MAX_WEIGHT, half_broken};
+use crate::kinds::{Halves, Kept, Table};
+use crate::rows::TableRows;
 use constraint::{Keyed, uniques_broken};
-use mig_lens::{Cell, Lens, Side, unfilled};
+use mig_lens::{Cell, Lens, unfilled};
 use sql_base::{Copying, List, Name, NoMemory, Value, weight};
 use std::alloc::Global;
 
@@ -90,72 +90,7 @@ pub fn show_heavy<T: TableRows>(alloc: Global, lens: &Lens, rows: &T) -> Result<
 
 // ---- the completion
 
-fn new_half_cause(alloc: Global, table: &Table, row: &Kept) -> Result<Option<Cause>, NoMemory>
-    ensures { IfOk result (λ cause. cause ≡ spec.new_half_cause table.now row.now) }
-{
-    match &row.halves.new {
-        Some(values) => half_cause(alloc, table, row.key, values.as_slice()),
-        None => Ok(None),
-    }
-}
-
-// The first fault of a new half.
-fn first_half_cause<T: TableRows>(
-    alloc: Global,
-    table: &Table,
-    rows: &T,
-) -> Result<Option<Cause>, NoMemory>
-    ensures { IfOk result (λ cause. cause ≡ first_some (spec.new_half_cause table.now) (T.rows rows.now)) }
-{
-    for at in 0..rows.count() {
-        let row = rows.row_at(alloc, at)?;
-        let cause = new_half_cause(alloc, table, &row)?;
-        if cause.is_some() {
-            return Ok(cause);
-        }
-    }
-    Ok(None)
-}
-
-// The first clash of these rows' new halves.
-fn new_clash<T: TableRows>(
-    alloc: Global,
-    table: &Table,
-    rows: &T,
-) -> Result<Option<Cause>, NoMemory>
-    ensures { IfOk result (λ cause. cause ≡ inner.new_clash table.now (T.rows rows.now)) }
-{
-    if table.2.uniques.as_slice().is_empty() {
-        return Ok(None);
-    }
-    let all = all_rows(alloc, rows)?;
-    let keys = keys_of(alloc, all.as_slice())?;
-    let none: Option<Kept> = None;
-    clashes_on(
-        alloc,
-        Some(table),
-        Side::New,
-        all.as_slice(),
-        &none,
-        keys.as_slice(),
-    )
-}
-
-/// Why these rows can't stand in the new version alone, whose table this is: the first fault of a new half, one row after
-/// another; then the unique constraints, each with the least key that has an equal. Where there is none no row is kept.
-pub fn invalid_cause<T: TableRows>(
-    alloc: Global,
-    table: &Table,
-    rows: &T,
-) -> Result<Option<Cause>, NoMemory>
-    ensures { IfOk result (λ cause. cause ≡ spec.invalid_cause table.now (T.rows rows.now)) }
-{
-    match first_half_cause(alloc, table, rows)? {
-        Some(cause) => Ok(Some(cause)),
-        None => new_clash(alloc, table, rows),
-    }
-}
-
+// The constraint that a row's new half doesn't meet, with the key.
 fn new_half_broken(
     alloc: Global,
     table: &Table,
@@ -169,7 +104,7 @@ fn new_half_broken(
     }
 }
 
-// The same of the first new half that doesn't meet a constraint.
+// The same of the first row of which there is one.
 fn first_broken<T: TableRows>(
     alloc: Global,
     table: &Table,

@@ -8,6 +8,7 @@ returns c = record {
   forward_carries = c.carried_columns_keep_their_values.ensures.forward;
   backward_carries = c.carried_columns_keep_their_values.ensures.backward;
   order = c.changes_keep_order.ensures;
+  valid = c.valid_rows_have_no_cause.ensures;
   schemas = c.planned_schemas_are_well_formed.ensures;
   fates = c.planned_tables_have_fates.ensures.stand;
   all = c.planned_tables_have_fates.ensures.all;

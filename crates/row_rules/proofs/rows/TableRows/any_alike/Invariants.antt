@@ -1,7 +1,7 @@
 use Rattle.std.proofs.Common.{◌≡◌, drop}
 use Rattle.std.specs.List.{list_any}
 use Rattle.row_rules.specs.Accept.{other_alike}
-use Rattle.row_rules.proofs.rows.TableRows.other_alike.Given as goal
+use Rattle.row_rules.proofs.rows.TableRows.any_alike.Given as goal
 
 abbrev pub invariant-loop-at : goal.invariant-loop-at
 invariant-loop-at g l =
