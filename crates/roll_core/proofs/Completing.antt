@@ -9,7 +9,8 @@ use Rattle.roll_core.proofs.Words.kind
 use Rattle.roll_core.proofs.Words.migrate
 use Rattle.row_rules.specs.Rows.{missing_keys}
 use Rattle.roll_core.proofs.Departing.{Active, RowsStay, is_active, is_left}
-use Rattle.roll_core.proofs.Runs.{both_pair}
+use Rattle.roll_core.proofs.Runs.{active_form, both_pair}
+use Rattle.roll_core.proofs.Words.{MayLeave, NoneMissing, over_pair, side_alone}
 use Rattle.roll_core.proofs.Tables.{all_at, each_place, got_mapped, numbers_of-meant, rows_of-read}
 
 -- ---- why it may not be completed
@@ -68,6 +69,18 @@ rows_laid : PairedRowsAreLaid → (pair : Pair) (rows : List StoredRow) → IsPa
 rows_laid law pair [] is h = tt
 rows_laid law pair (row ∷ rows) is h = (law pair row.1 is h.0, rows_laid law pair rows is h.1)
 
+-- Where none is to be filled no row of a table that both versions have is marked.
+none_marked : Below → (frame : State) (all : List StoredTable) → IsState (meant frame all)
+    → migrate.not_filled (meant frame all) (numbers_of (meant frame all)) ≡ None → (at : ℕ) (table : StoredTable)
+    → slice_get all at ≡ Some table → (both : Shared) → shared frame table.number ≡ Some both
+    → table.form ≡ Paired (pair_over both) → Each (λ row. is_marked (pair_over both) row.1 ≡ false) table.rows
+none_marked law frame all stands filled at table e both is form =
+    let s = meant frame all in
+    let got = got_mapped table_meant all at table e in
+    let new = all_at (λ (table : ℕ × List Kept). is_some (table_on s New table.0) ≡ true → Each (λ row. is_some row.halves.new ≡ true) table.1) s.tables at (table_meant table) (law.halves s stands filled) got in
+    let there : is_some (table_on s New table.number) ≡ true = ap is_some (law.shared s table.number both stands is).new in
+    unmarked (pair_over both) table.rows (subst (λ form. Each (λ row. is_some row.halves.new ≡ true) (map (kept form) table.rows)) form (new there))
+
 -- So the rows of a table that both versions have stay.
 filled_stay : Below → (frame : State) (all : List StoredTable) → IsState (meant frame all) → migrate.not_filled (meant frame all) (numbers_of (meant frame all)) ≡ None → (at : ℕ) (table : StoredTable)
     → slice_get all at ≡ Some table → AllByRecursion (λ row. IsStoredRow table.form row.1) table.rows → (both : Shared) → shared frame table.number ≡ Some both → table.form ≡ Paired (pair_over both)
@@ -75,14 +88,34 @@ filled_stay : Below → (frame : State) (all : List StoredTable) → IsState (me
 filled_stay law frame all stands filled at table e stored both is form =
     let s = meant frame all in
     let pair = pair_over both in
-    let got = got_mapped table_meant all at table e in
-    let new = all_at (λ (table : ℕ × List Kept). is_some (table_on s New table.0) ≡ true → Each (λ row. is_some row.halves.new ≡ true) table.1) s.tables at (table_meant table) (law.halves s stands filled) got in
-    let there : is_some (table_on s New table.number) ≡ true = ap is_some (law.shared s table.number both stands is).new in
-    let marks = unmarked pair table.rows (subst (λ form. Each (λ row. is_some row.halves.new ≡ true) (map (kept form) table.rows)) form (new there)) in
+    let marks = none_marked law frame all stands filled at table e both is form in
     let paired = subst (λ form. AllByRecursion (λ row. IsStoredRow form row.1) table.rows) form stored in
     record { means = rows_stay pair table.rows marks; stored = rows_laid law.paired_laid pair table.rows (both_pair law s table.number both stands is) paired }
 
 -- ---- the first step
+
+none_to_fill : Below → (frame : State) (tables : List StoredTable) → IsState (meant frame tables)
+    → may_not_complete frame tables ≡ None
+    → migrate.not_filled (meant frame tables) (numbers_of (meant frame tables)) ≡ None
+none_to_fill law frame tables stands may =
+    let none = (either_none (first_some (not_filled_in frame) tables) (option_map not_valid (first_some (invalid_in frame) tables)) may).0 in
+    ap (migrate.not_filled (meant frame tables)) (numbers_of-meant frame tables)
+    ∙ filled_all frame tables tables (rows_are law frame tables stands) ∙ none
+
+-- Each table may be left as it is stored.
+pub may_leave : Below → (stored : Stored) → IsStored stored → is_some (active_name stored.frame.mode) ≡ true
+    → may_not_complete stored.frame stored.tables ≡ None → Each (MayLeave Old) stored.tables
+may_leave law stored is live may =
+    let frame = stored.frame in
+    let tables = stored.tables in
+    let a = is_active frame.mode live in
+    let filled = none_to_fill law frame tables is.stands may in
+    each_place (MayLeave Old) tables (λ at table e.
+    let form = (all_at (IsStoredTable stored) tables at table is.tables e).form ∙ active_form stored.former frame table.number a.name a.schema a.fates a.is in
+    elim (shared frame table.number) as (λ both. shared frame table.number ≡ both → table.form ≡ over_pair Paired (side_alone frame table.number) both → MayLeave Old table) [
+      | None ↦ λ alone form. subst (λ form. NoneMissing form table.rows) (sym form) tt
+      | Some both ↦ λ shares form. subst (λ form. NoneMissing form table.rows) (sym form) (none_marked law frame tables is.stands filled at table e both shares form)
+    ] refl form)
 
 abbrev complete_by : State → Kind → CommandOutcome
 complete_by s kind.Nothing = finish s s.mode
@@ -107,8 +140,7 @@ finishes law stored is k live may =
     let frame = stored.frame in
     let tables = stored.tables in
     let a = is_active frame.mode live in
-    let none = (either_none (first_some (not_filled_in frame) tables) (option_map not_valid (first_some (invalid_in frame) tables)) may).0 in
-    let filled = ap (migrate.not_filled s) (numbers_of-meant frame tables) ∙ filled_all frame tables tables (rows_are law frame tables is.stands) ∙ none in
+    let filled = none_to_fill law frame tables is.stands may in
     let done = is_left law Old frame stored.former tables a is (λ at table e. filled_stay law frame tables is.stands filled at table e (all_at (IsStoredTable stored) tables at table is.tables e).rows) in
     let step = stepped 1 (standing_alone by_completing a.name a.schema a.fates s) in
     let outcome = complete_is s a k ∙ ap (λ may. without may step) (may_same law frame tables is.stands ∙ may) in

@@ -25,7 +25,7 @@ row_found form key (row ∷ rows) =
       | false ↦ λ e. row_found form key rows
     ] refl
 
-keys_ascend : (form : Form) (rows : List StoredRow) → T (is_sorted int_cmp rows) → Ascends (map (kept form) rows)
+pub keys_ascend : (form : Form) (rows : List StoredRow) → T (is_sorted int_cmp rows) → Ascends (map (kept form) rows)
 keys_ascend form [] s = tt
 keys_ascend form (row ∷ []) s = tt
 keys_ascend form (row ∷ next ∷ rows) s =

@@ -3,7 +3,7 @@ use Rattle.roll_core.proofs.Words.{Below, ◌≡◌, ◌∙◌, ℕ, List, [], �
 use Rattle.roll_core.proofs.Words.{Kind, Kept, Unfinished, Value, row_fits, shape_of, State, HalfStands, IsState, RowsStand, Shared, active_name, by_rolling_back, roll_back, rollback, shared, shown_on}
 use Rattle.roll_core.proofs.Words.{standing_alone, staying_row, stepped_back, table_on, tidied_back, unfilled, New, Old, CommandOutcome, Rollback, Table, Pair, IsPair, IsPairedRow}
 use Rattle.roll_core.proofs.Words.{new_view, old_view, lost_weight, Paired, Returned, AreKept, Goes, IsStored, IsStoredRow, IsStoredTable, Stored, StoredRow, StoredTable, halves_of, kept, left_parts}
-use Rattle.roll_core.proofs.Words.{meaning, meant, pair_over}
+use Rattle.roll_core.proofs.Words.{MayLeave, meaning, meant, pair_over}
 use Rattle.roll_core.proofs.Words.kind
 use Rattle.roll_core.proofs.Departing.{RowsStay, is_active, is_left}
 use Rattle.roll_core.proofs.Runs.{both_pair}
@@ -56,6 +56,11 @@ all_return law frame all stands at table e stored both shares form =
     (subst (λ form. RowsStand s number (map (kept form) table.rows)) form rows) (subst (λ form. AllByRecursion (λ row. IsStoredRow form row.1) table.rows) form stored)
 
 -- ---- the step
+
+-- Where the new version goes nothing is asked of the tables.
+pub all_may_leave : (tables : List StoredTable) → AllByRecursion (MayLeave New) tables
+all_may_leave [] = tt
+all_may_leave (table ∷ tables) = (tt, all_may_leave tables)
 
 abbrev rollback_by : State → Kind → CommandOutcome
 rollback_by s kind.Nothing = roll_back s s.mode

@@ -2,7 +2,8 @@
 use Rattle.roll_core.proofs.Words.{Bor, ◌≡◌, ◌∙◌, ℤ, List, [], ◌∷◌, true, false, ◌||◌, not, Option, Some, None, is_some, int_cmp, int_eq, Less, Equal, Greater, ap, refl, sym, length, map, filter}
 use Rattle.roll_core.proofs.Words.{cond, put, picked, where_key, int_eq_equiv, AllByRecursion, list_any, option_copied, eq_by_cmp, match_ordering, Value, Kept, put_row, Rows, Form, StoredRow, kept}
 use Rattle.roll_core.proofs.Words.{arith, ◌≤◌, ◌+◌, ℕ, subst, int_cmp_total, Change, Put, Remove, after_change, after_changes, OfPut, RemovedIsLeftOut, StoredChange, put_all, put_stored}
-use Rattle.roll_core.proofs.Words.{stored_change, IsStoredRow}
+use Rattle.roll_core.proofs.Words.{stored_change, meant_change, meant_changes, IsStoredRow}
+use Rattle.roll_core.specs.declared.changing.StoredChange.TheVariants as stored
 use Rattle.roll_core.proofs.Words.finite
 use Rattle.roll_core.proofs.Storing.{StoresRow}
 
@@ -94,3 +95,23 @@ one_stored law form before (Remove key) rows s h = subst (AllByRecursion (λ row
 pub all_stored : RemovedIsLeftOut → (form : Form) (before : Rows) (changes : List Change) (rows : Rows) → AllByRecursion (Stores form before) changes → AllByRecursion (λ row. IsStoredRow form row.1) (finite.entries rows) → AllByRecursion (λ row. IsStoredRow form row.1) (finite.entries (put_all (map (stored_change form before) changes) rows))
 all_stored law form before [] rows s h = h
 all_stored law form before (change ∷ changes) rows s h = all_stored law form before changes (put_stored (stored_change form before change) rows) s.1 (one_stored law form before change rows s.0 h)
+
+-- ---- changes as the indexes have them
+
+stored_meant : RemovedIsLeftOut → (form : Form) (change : StoredChange) (rows : Rows)
+    → map (kept form) (finite.entries (put_stored change rows))
+    ≡ after_change (meant_change form change) (map (kept form) (finite.entries rows))
+stored_meant law form (stored.Put key values) rows =
+    ap (map (kept form)) (finite.entries-insert int_cmp_total rows key values)
+    ∙ put-meant form (kept form (key, values)) values refl (finite.entries rows)
+stored_meant law form (stored.Remove key) rows =
+    ap (map (kept form)) (law rows key) ∙ removed-meant form key (finite.entries rows)
+
+-- Whatever is stored, the rows that are meant change so.
+pub changes_meant : RemovedIsLeftOut → (form : Form) (changes : List StoredChange) (rows : Rows)
+    → map (kept form) (finite.entries (put_all changes rows))
+    ≡ after_changes (meant_changes form changes) (map (kept form) (finite.entries rows))
+changes_meant law form [] rows = refl
+changes_meant law form (change ∷ changes) rows =
+    changes_meant law form changes (put_stored change rows)
+    ∙ ap (after_changes (meant_changes form changes)) (stored_meant law form change rows)

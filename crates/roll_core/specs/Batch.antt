@@ -21,10 +21,9 @@ use Rattle.machine.specs.Migrate.{least_batch, refused_batch}
 use Rattle.machine.specs.Statement.{written_reply}
 use Rattle.roll_core.specs.declared.forms.Form.{Form}
 use Rattle.roll_core.specs.declared.forms.Form.TheVariants.{Own, Paired, Left, Trimmed, Returned}
-use Rattle.roll_core.specs.declared.store.StoredTable.{StoredTable as OwnTable}
 use Rattle.roll_core.specs.Changing.{with_changes}
 use Rattle.roll_core.specs.Running.{Comes, RowsStored, SameForms, meant, reply_of}
-use Rattle.roll_core.specs.Seen.{seen}
+use Rattle.roll_core.specs.Seen.{OwnTable, seen}
 use Rattle.roll_core.specs.Store.{StoredTable, rows_meant}
 
 -- Both versions have the table.

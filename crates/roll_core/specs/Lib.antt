@@ -2,6 +2,7 @@ pub mod Batch
 pub mod Below
 pub mod Changing
 pub mod Engine
+pub mod Own
 pub mod Running
 pub mod Seen
 pub mod Stepping

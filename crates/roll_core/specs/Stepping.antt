@@ -1,5 +1,5 @@
 -- What the steps of a migration leave of what is stored, and what its commands are promised.
-use Rattle.std.specs.Prelude.{◌≡◌, false, ℕ, ℤ, ◌+◌, Bool, List, [], ◌++◌, Option, None, Some, Result, Ok, Err, is_some, length, map, not, ◌==◌, if◌then◌else◌}
+use Rattle.std.specs.Prelude.{◌≡◌, true, false, ℕ, ℤ, ◌+◌, Bool, List, [], ◌++◌, Option, None, Some, Result, Ok, Err, is_some, length, map, not, ◌==◌, if◌then◌else◌}
 use Rattle.std.specs.List.{AllByRecursion, filter, filter_map}
 use Rattle.std.specs.Option.{option_and_then, option_map, option_or}
 use Rattle.sql_base.specs.Outcome.{and_then}
@@ -33,7 +33,7 @@ use Rattle.machine.specs.Words.{New, Old, Side}
 use Rattle.roll_core.specs.declared.commands.Cmd.{Cmd}
 use Rattle.roll_core.specs.declared.commands.Cmd.TheVariants.{Start, Complete, Rollback}
 use Rattle.trigger_pair.specs.declared.pairs.Pair.{Pair}
-use Rattle.trigger_pair.specs.Stored.{begun, old_view}
+use Rattle.trigger_pair.specs.Stored.{begun, is_marked, old_view}
 use Rattle.phase_steps.specs.Rows.{trimmed, trimmed_view}
 use Rattle.roll_core.specs.declared.forms.Form.{Form}
 use Rattle.roll_core.specs.declared.forms.Form.TheVariants.{Own, Paired, Left, Trimmed, Returned}
@@ -88,6 +88,30 @@ left_form gone (Left pair) = Left pair
 left_form gone (Trimmed pair) = Trimmed pair
 left_form gone (Returned pair) = Returned pair
 
+-- No row of a table that both versions have misses its new half.
+abbrev pub NoneMissing : Form → List StoredRow → Type 0
+NoneMissing (Own side) rows = Unit {0}
+NoneMissing (Paired pair) rows = AllByRecursion (λ row. is_marked pair row.1 ≡ false) rows
+NoneMissing (Left pair) rows = Unit {0}
+NoneMissing (Trimmed pair) rows = Unit {0}
+NoneMissing (Returned pair) rows = Unit {0}
+
+-- So it is asked of a table where the old version goes.
+abbrev pub MayLeave : Side → StoredTable → Type 0
+MayLeave Old table = NoneMissing table.form table.rows
+MayLeave New table = Unit {0}
+
+-- The halves that stay are the new ones.
+abbrev pub stays_new : Side → Form → Bool
+stays_new gone (Own Old) = false
+stays_new gone (Own New) = true
+stays_new Old (Paired pair) = true
+stays_new New (Paired pair) = false
+stays_new gone (Left pair) = false
+stays_new gone (Trimmed pair) = false
+stays_new gone (Returned pair) = false
+
+-- Its rows stay as they are stored.
 abbrev pub left_table : Side → StoredTable → StoredTable
 left_table gone table = record table { form = left_form gone table.form }
 
@@ -121,12 +145,11 @@ begun_frame frame name plan = record frame {
 
 -- ---- whether a migration may be completed
 
--- The least key that is still to be filled, of a table that the frame has: P4.
+-- Why the rows of a table that the frame has can't stand in the new version alone: P4 and P5.
 abbrev pub not_filled_in : State → StoredTable → Option Refusal
 not_filled_in frame table =
     option_and_then (λ both. option_map (λ key. NotFilled (name_of both.new) key) (least (missing_keys (rows_meant table)))) (shared frame table.number)
 
--- The constraint of the new version that the rows of a table that the frame has don't meet, with a key: P5.
 abbrev pub invalid_in : State → StoredTable → Option (List ℕ × ℤ)
 invalid_in frame table = option_and_then (λ newer. broken_constraint newer (rows_meant table)) (table_on frame New table.number)
 

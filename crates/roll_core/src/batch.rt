@@ -119,7 +119,8 @@ fn fill_at(
     ensures { batch.Fills frame.now (map seen tables.old) (batch.batch_at frame.now (map seen tables.old) (Some at) n) result (map seen tables.new) }
 {
     laws_below();
-    let Some(pair) = shared(frame, tables[at].number) else {
+    let table = &tables[at];
+    let Some(pair) = shared(frame, table.number) else {
         return Ok(Reply::Filled);
     };
     fill_through(alloc, tables, at, filling_site(frame, pair), job, n)

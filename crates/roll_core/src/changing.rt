@@ -7,7 +7,7 @@ ghost use Rattle.roll_core.specs.Seen.{seen};
 ghost use Rattle.roll_core.specs.Store as model;
 
 use crate::forms::{Form, copied};
-use crate::store::StoredTable;
+use crate::store::{StoredTable, kept};
 use mig_lens::Side;
 use phase_steps::{left_row, returned_row, trimmed};
 use row_rules::{Change, Halves};
@@ -127,6 +127,60 @@ fn put_all(rows: &mut RowStore, changes: List<StoredChange>)
     }
 }
 
+// A change as the rows that are meant are changed.
+fn meant_change(alloc: Global, form: &Form, change: &StoredChange) -> Result<Change, NoMemory>
+    ensures { IfOk result (λ meant. meant ≡ spec.meant_change form.now change.now) }
+{
+    match change {
+        StoredChange::Put(key, values) => {
+            let row = kept(alloc, form, *key, values.as_slice())?;
+            Ok(Change::Put(row))
+        }
+        StoredChange::Remove(key) => Ok(Change::Remove(*key)),
+    }
+}
+
+fn meant_changes(
+    alloc: Global,
+    form: &Form,
+    changes: &[StoredChange],
+) -> Result<List<Change>, NoMemory>
+    ensures { IfOk result (λ all. all ≡ spec.meant_changes form.now changes.now) }
+{
+    let mut all = List::new(alloc);
+    for change in changes {
+        all.push(meant_change(alloc, form, change)?)?;
+    }
+    Ok(all)
+}
+
+// Stores changes in a table and in its indexes. An error is want of memory, and then the table's rows are as they were.
+fn store_all(
+    alloc: Global,
+    table: &mut StoredTable,
+    changes: List<StoredChange>,
+) -> Result<(), NoMemory>
+    ensures ok { OnOk result (seen table.new ≡ spec.with_stored changes table.old) }
+    ensures err { OnErr result (seen table.new ≡ seen table.old) }
+{
+    row_store::laws::changes_keep_order();
+    row_index::laws::changes_are_indexed();
+    row_index::laws::prepared_changes_have_room();
+    let meant = meant_changes(alloc, &table.form, changes.as_slice())?;
+    let old = table.old_index.prepare(alloc, Side::Old, meant.as_slice())?;
+    let new = table.new_index.prepare(alloc, Side::New, meant.as_slice())?;
+    let Ok(count) = u32::try_from(changes.len()) else {
+        return Err(NoMemory);
+    };
+    table.rows.reserve(count)?;
+    table.old_index.reserve(count)?;
+    table.new_index.reserve(count)?;
+    put_all(&mut table.rows, changes);
+    table.old_index.apply(old);
+    table.new_index.apply(new);
+    Ok(())
+}
+
 /// Puts the changes into the table. An error is want of memory, and then the table's rows are as they were.
 pub fn put_changes(
     alloc: Global,
@@ -137,10 +191,5 @@ pub fn put_changes(
     ensures err { OnErr result (seen table.new ≡ seen table.old) }
 {
     let stored = stored_changes(alloc, table, changes)?;
-    let Ok(count) = u32::try_from(stored.len()) else {
-        return Err(NoMemory);
-    };
-    table.rows.reserve(count)?;
-    put_all(&mut table.rows, stored);
-    Ok(())
+    store_all(alloc, table, stored)
 }

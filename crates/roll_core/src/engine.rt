@@ -83,11 +83,8 @@ impl Core {
         machine::laws::states_stand();
         machine::laws::states_stay_lawful();
         let mut tables = Vec::new(alloc);
-        tables.push(StoredTable {
-            number: 1,
-            form: Form::Own(Side::Old),
-            rows: RowStore::new(alloc),
-        })?;
+        let form = Form::Own(Side::Old);
+        tables.push(StoredTable::new(alloc, 1, form, RowStore::new(alloc), &[], &[])?)?;
         Ok(Core {
             alloc,
             frame: frame_of(alloc, beginning(alloc)?),

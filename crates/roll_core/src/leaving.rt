@@ -1,7 +1,7 @@
 //! The first step of completing and that of rolling back: the version of one side goes, and the other one stands alone. No
 //! row is touched. All memory is taken before anything is switched.
-ghost use Rattle.std.specs.Prelude.{◌≡◌, ◌≤◌, ◌<◌, ◌+◌, ◌++◌, ◌∷◌, [], IfOk, None, OnErr, OnOk, is_some, map, vec_capacity, vec_len};
-ghost use Rattle.std.specs.List.{filter, filter_map};
+ghost use Rattle.std.specs.Prelude.{◌≡◌, ◌≤◌, ◌<◌, ◌+◌, ◌++◌, ◌∷◌, [], IfOk, None, OnErr, OnOk, is_some, map, vec_capacity, vec_len, if◌then◌else◌};
+ghost use Rattle.std.specs.List.{AllByRecursion, filter, filter_map};
 ghost use Rattle.std.specs.Option.{option_map};
 ghost use Rattle.row_rules.specs.Site as sites;
 ghost use Rattle.roll_core.specs.Seen.{former_seen, parts, seen};
@@ -12,6 +12,7 @@ use crate::store::{Former, StoredTable};
 use machine::parts::{lens_among, lost_columns_in, table_on};
 use machine::{Mode, State};
 use mig_lens::{Fate, Kind, Side};
+use row_index::SideIndex;
 use sql_base::{List, NoMemory};
 use std::alloc::Global;
 use std::mem::replace;
@@ -93,14 +94,37 @@ fn left_form(gone: Side, form: Form) -> Form
     }
 }
 
-// A table that stays, with its rows as they are stored.
-fn left_table(gone: Side, table: StoredTable) -> StoredTable
+// Whether the halves that stay are the new ones.
+fn stays_new(gone: Side, form: &Form) -> bool
+    ensures { result ≡ spec.stays_new gone form.now }
+{
+    match form {
+        Form::Own(side) => *side == Side::New,
+        Form::Paired(_) => gone == Side::Old,
+        Form::Left(_) | Form::Trimmed(_) | Form::Returned(_) => false,
+    }
+}
+
+fn index_that_stays(stays_new: bool, old: SideIndex, new: SideIndex) -> SideIndex
+    ensures { result ≡ (if stays_new then new else old) }
+{
+    if stays_new { new } else { old }
+}
+
+// A table that stays, with its rows as they are stored and the indexes of the halves that stay. Where the old version goes
+// each row has its new half.
+fn left_table(alloc: Global, gone: Side, table: StoredTable) -> StoredTable
+    requires { spec.MayLeave gone (seen table) }
     ensures { seen result ≡ spec.left_table gone (seen table) }
 {
+    let stays = stays_new(gone, &table.form);
+    let index = index_that_stays(stays, table.old_index, table.new_index);
     StoredTable {
         number: table.number,
         form: left_form(gone, table.form),
         rows: table.rows,
+        old_index: index,
+        new_index: SideIndex::new(alloc),
     }
 }
 
@@ -124,12 +148,14 @@ fn stays(gone: Side, frame: &State, table: &StoredTable) -> bool
 
 // Moves a table to those that stay or to those that go, where there is room for one.
 fn part_one(
+    alloc: Global,
     gone: Side,
     frame: &State,
     table: StoredTable,
     staying: &mut Vec<StoredTable>,
     going: &mut Vec<StoredTable>,
 )
+    requires leaves { spec.MayLeave gone (seen table) }
     requires stay_room { vec_len staying.old < vec_capacity staying.old }
     requires go_room { vec_len going.old < vec_capacity going.old }
     ensures staying { map seen staying.new.items ≡ map seen staying.old.items
@@ -142,7 +168,7 @@ fn part_one(
     ensures go_whole { vec_capacity going.new ≡ vec_capacity going.old }
 {
     if stays(gone, frame, &table) {
-        staying.push_reserved(left_table(gone, table));
+        staying.push_reserved(left_table(alloc, gone, table));
     } else {
         going.push_reserved(table);
     }
@@ -150,12 +176,14 @@ fn part_one(
 
 // Moves the tables so, where there is room for all.
 fn part_all(
+    alloc: Global,
     gone: Side,
     frame: &State,
     tables: Vec<StoredTable>,
     staying: &mut Vec<StoredTable>,
     going: &mut Vec<StoredTable>,
 )
+    requires leave { AllByRecursion (spec.MayLeave gone) (map seen tables.items) }
     requires stay_room { vec_len staying.old + vec_len tables ≤ vec_capacity staying.old }
     requires go_room { vec_len going.old + vec_len tables ≤ vec_capacity going.old }
     ensures staying { map seen staying.new.items ≡ map seen staying.old.items
@@ -164,7 +192,7 @@ fn part_all(
         ≡ map seen going.old.items ++ filter (spec.goes gone frame.now) (map seen tables.items) }
 {
     for table in tables {
-        part_one(gone, frame, table, staying, going);
+        part_one(alloc, gone, frame, table, staying, going);
     }
 }
 
@@ -176,6 +204,7 @@ fn part(
     frame: &State,
     tables: &mut Vec<StoredTable>,
 ) -> Result<Vec<StoredTable>, NoMemory>
+    requires { AllByRecursion (spec.MayLeave gone) (map seen tables.old.items) }
     ensures staying { OnOk result (map seen tables.new.items
         ≡ map (spec.left_table gone) (filter (spec.stays gone frame.now) (map seen tables.old.items))) }
     ensures going { IfOk result (λ gone_tables. map seen gone_tables.items
@@ -186,7 +215,7 @@ fn part(
     let mut staying = Vec::with_capacity(alloc, count)?;
     let mut going = Vec::with_capacity(alloc, count)?;
     let all = replace(tables, Vec::new(alloc));
-    part_all(gone, frame, all, &mut staying, &mut going);
+    part_all(alloc, gone, frame, all, &mut staying, &mut going);
     *tables = staying;
     Ok(going)
 }
@@ -235,8 +264,8 @@ fn left_frame(
     })
 }
 
-/// The version of this side goes, while two stand, and what it had is kept. An error is want of memory, and then all is
-/// stored as before.
+/// The version of this side goes, while two stand, and what it had is kept. Where the old one goes no row misses its new
+/// half. An error is want of memory, and then all is stored as before.
 pub fn leave(
     alloc: Global,
     gone: Side,
@@ -244,6 +273,7 @@ pub fn leave(
     former: &mut Option<Former>,
     tables: &mut Vec<StoredTable>,
 ) -> Result<(), NoMemory>
+    requires { AllByRecursion (spec.MayLeave gone) (map seen tables.old.items) }
     ensures stored { OnOk result (parts frame.new former.new tables.new.items ≡ spec.left_parts gone (parts frame.old former.old tables.old.items)) }
     ensures err { OnErr result (parts frame.new former.new tables.new.items ≡ parts frame.old former.old tables.old.items) }
 {

@@ -1,11 +1,13 @@
 //! START: a migration is begun over what is stored.
-ghost use Rattle.std.specs.Prelude.{◌≡◌, ◌≤◌, ◌+◌, ◌++◌, false, IfOk, None, OnErr, OnOk, Option, length, map};
+ghost use Rattle.std.specs.Prelude.{◌≡◌, ◌≤◌, ◌+◌, ◌++◌, [], false, IfOk, None, OnErr, OnOk, Option, length, map};
 ghost use Rattle.std.specs.List.{list_any};
 ghost use Rattle.machine.specs.Laws.{leaves_all};
 ghost use Rattle.machine.specs.Migrate as migrate;
 ghost use Rattle.machine.specs.declared.events.Asked.TheVariants.{Read as Migrates};
 ghost use Rattle.mig_lens.specs.Plan.{created_in};
 ghost use Rattle.row_rules.specs.Outcome.{Answers};
+ghost use Rattle.row_rules.specs.Site as sites;
+ghost use Rattle.std.specs.Option.{option_copied, option_map_or};
 ghost use Rattle.roll_core.specs.declared.store.Former.{Former};
 ghost use Rattle.roll_core.specs.Running.{meant};
 ghost use Rattle.roll_core.specs.Seen.{parts, seen};
@@ -21,7 +23,7 @@ use machine::{Asked, Mode, Reply, State};
 use mig_lens::{Fate, Lens, Migration, Plan, Refusal, Side, layout};
 use row_rules::{Stop, Table, show_heavy};
 use row_store::RowStore;
-use sql_base::{Copying, Name, NoMemory};
+use sql_base::{Copying, Name, NoMemory, Unique};
 use std::alloc::Global;
 use trigger_pair::Pair;
 
@@ -93,6 +95,16 @@ fn begun_form(alloc: Global, frame: &State, plan: &Plan, number: u32) -> Result<
     }
 }
 
+// The unique constraints that a version has for a table, which it may not have.
+fn uniques_of(table: Option<&Table>) -> &[Unique]
+    ensures { result.now ≡ option_map_or (λ table. (sites.shape_of table).uniques) (option_copied table.entry) [] }
+{
+    match table {
+        Some(table) => table.2.uniques.as_slice(),
+        None => &[],
+    }
+}
+
 fn begun_table(
     alloc: Global,
     frame: &State,
@@ -103,11 +115,9 @@ fn begun_table(
 {
     let form = begun_form(alloc, frame, plan, table.number)?;
     let rows = stepped_rows(alloc, &form, &table.rows)?;
-    Ok(StoredTable {
-        number: table.number,
-        form,
-        rows,
-    })
+    let old = uniques_of(numbered(&frame.schema, table.number));
+    let new = uniques_of(numbered(&plan.schema, table.number));
+    StoredTable::new(alloc, table.number, form, rows, old, new)
 }
 
 fn begun_tables(
@@ -125,19 +135,19 @@ fn begun_tables(
     Ok(begun)
 }
 
-fn created_table(alloc: Global, number: u32) -> StoredTable
-    ensures { seen result ≡ spec.created_table number }
+fn created_table(alloc: Global, plan: &Plan, number: u32) -> Result<StoredTable, NoMemory>
+    ensures { IfOk result (λ table. seen table ≡ spec.created_table number) }
 {
-    StoredTable {
-        number,
-        form: Form::Own(Side::New),
-        rows: RowStore::new(alloc),
-    }
+    let uniques = uniques_of(numbered(&plan.schema, number));
+    let form = Form::Own(Side::New);
+    let table = StoredTable::new(alloc, number, form, RowStore::new(alloc), &[], uniques)?;
+    Ok(table)
 }
 
 // Adds a table without rows for each of these numbers.
 fn add_created(
     alloc: Global,
+    plan: &Plan,
     tables: &mut Vec<StoredTable>,
     numbers: &[u32],
 ) -> Result<(), NoMemory>
@@ -145,7 +155,7 @@ fn add_created(
         ≡ map seen tables.old.items ++ map spec.created_table numbers.now) }
 {
     for number in numbers {
-        tables.push(created_table(alloc, *number))?;
+        tables.push(created_table(alloc, plan, *number)?)?;
     }
     Ok(())
 }
@@ -169,7 +179,7 @@ fn begin(
 {
     let created = created_in(alloc, plan.fates.as_slice())?;
     let mut begun = begun_tables(alloc, frame, &plan, tables)?;
-    add_created(alloc, &mut begun, created.as_slice())?;
+    add_created(alloc, &plan, &mut begun, created.as_slice())?;
     let name = name.copy(alloc)?;
     frame.next_table += created.len() as u32;
     frame.mode = Mode::Both {

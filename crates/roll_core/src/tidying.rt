@@ -27,11 +27,14 @@ fn tidied_table(alloc: Global, table: &StoredTable) -> Result<StoredTable, NoMem
 {
     let form = tidied_form(alloc, &table.form)?;
     let rows = stepped_rows(alloc, &table.form, &table.rows)?;
-    Ok(StoredTable {
-        number: table.number,
+    StoredTable::new(
+        alloc,
+        table.number,
         form,
         rows,
-    })
+        table.old_index.uniques(),
+        table.new_index.uniques(),
+    )
 }
 
 /// All these tables after the next step. An error is want of memory.

@@ -1,6 +1,6 @@
 use Rattle.roll_core.proofs.Words.{AreKept, Complete, Goes, List, Ok, Old, Some, Stored, ap, complete, left_parts, map, may_not_complete, meaning, parts, refl, seen, subst, sym, ◌≡◌, ◌∙◌}
-use Rattle.roll_core.specs.declared.store.StoredTable.{StoredTable}
-use Rattle.roll_core.proofs.Completing.{finish_refused, finishes}
+use Rattle.roll_core.specs.Seen.{OwnTable as StoredTable}
+use Rattle.roll_core.proofs.Completing.{finish_refused, finishes, may_leave}
 use Rattle.roll_core.proofs.complete.finish.Goals as goal
 
 pub returns-in-Some-clause-goes : goal.returns-in-Some-clause-goes
@@ -22,3 +22,9 @@ returns c =
       changes = refl;
       kept = subst AreKept (sym is) step.1;
     }
+
+pub leave-requires : goal.leave-requires
+leave-requires c =
+    let old : Stored = parts c.args.frame.now c.args.former.now c.args.tables.now.items in
+    let may = ap (λ (ts : List StoredTable). may_not_complete c.args.frame.now (map seen ts)) (sym c.deref.ensures.value) ∙ sym c.in_ok-refusal.ensures ∙ c.in_default.is in
+    may_leave c.laws_below.ensures old c.requires.stored c.requires.active may

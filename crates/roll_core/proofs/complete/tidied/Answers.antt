@@ -1,5 +1,5 @@
 use Rattle.roll_core.proofs.Words.{former_seen, option_map, ◌≡◌, Ok, sym, subst, Goes, AreKept, Complete, complete, meaning, tidied_parts, ◌∙◌, ap, map, refl, List, parts, seen, tidied_table, Stored}
-use Rattle.roll_core.specs.declared.store.StoredTable.{StoredTable}
+use Rattle.roll_core.specs.Seen.{OwnTable as StoredTable}
 use Rattle.roll_core.proofs.Stepped.{same_parts, tidies}
 use Rattle.roll_core.proofs.complete.tidied.Goals as goal
 

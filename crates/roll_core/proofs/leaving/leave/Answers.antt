@@ -1,5 +1,5 @@
 use Rattle.roll_core.proofs.Words.{◌∙◌, List, ap, former_by, former_seen, left_frame, lost_columns, map, option_map, seen}
-use Rattle.roll_core.specs.declared.store.StoredTable.{StoredTable}
+use Rattle.roll_core.specs.Seen.{OwnTable as StoredTable}
 use Rattle.roll_core.proofs.Stepped.{same_parts}
 use Rattle.roll_core.proofs.leaving.leave.Goals as goal
 

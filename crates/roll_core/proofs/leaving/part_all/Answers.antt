@@ -1,6 +1,10 @@
-use Rattle.roll_core.proofs.Words.{◌++◌, List, StoredTable, ap, arith, filter, goes, left_table, length, map, seen, stays}
+use Rattle.roll_core.proofs.Words.{◌++◌, AllByRecursion, List, MayLeave, OwnTable, StoredTable, ap, arith, filter, goes, left_table, length, map, seen, stays, subst}
 use Rattle.roll_core.proofs.Parting.{goes_first, parted_next, stays_first}
 use Rattle.roll_core.proofs.leaving.part_all.Goals as goal
+
+pub part_one-requires-clause-leaves : goal.part_one-requires-clause-leaves
+part_one-requires-clause-leaves c =
+    (subst (λ (ts : List OwnTable). AllByRecursion (MayLeave c.args.gone) (map seen ts)) c.in-Some.ensures.steps.0 c.loop-table.invariant.3).0
 
 pub loop-table-preserved : goal.loop-table-preserved
 loop-table-preserved c =
@@ -19,8 +23,9 @@ loop-table-preserved c =
       tt,
       tt,
       omega (arith, left, was.2, long),
-      omega (arith, long, was.3, c.part_one.ensures.stay_len, c.part_one.ensures.stay_whole),
-      omega (arith, long, was.4, c.part_one.ensures.go_len, c.part_one.ensures.go_whole),
-      parted_next staying (stays_first gone frame) table rest items (map seen c.loop-table.staying.items) (map seen c.part_one.new.staying.items) (map seen c.args.staying.now.items ++ staying all) is c.part_one.ensures.staying was.5,
-      parted_next going (goes_first gone frame) table rest items (map seen c.loop-table.going.items) (map seen c.part_one.new.going.items) (map seen c.args.going.now.items ++ going all) is c.part_one.ensures.going was.6,
+      (subst (λ (ts : List OwnTable). AllByRecursion (MayLeave gone) (map seen ts)) is was.3).1,
+      omega (arith, long, was.4, c.part_one.ensures.stay_len, c.part_one.ensures.stay_whole),
+      omega (arith, long, was.5, c.part_one.ensures.go_len, c.part_one.ensures.go_whole),
+      parted_next staying (stays_first gone frame) table rest items (map seen c.loop-table.staying.items) (map seen c.part_one.new.staying.items) (map seen c.args.staying.now.items ++ staying all) is c.part_one.ensures.staying was.6,
+      parted_next going (goes_first gone frame) table rest items (map seen c.loop-table.going.items) (map seen c.part_one.new.going.items) (map seen c.args.going.now.items ++ going all) is c.part_one.ensures.going was.7,
     )

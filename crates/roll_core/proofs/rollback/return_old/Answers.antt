@@ -1,5 +1,5 @@
-use Rattle.roll_core.proofs.Words.{AreKept, Goes, New, Ok, Rollback, Stored, left_parts, meaning, parts, refl, rollback, subst, sym, ◌≡◌}
-use Rattle.roll_core.proofs.Returning.{returns_old}
+use Rattle.roll_core.proofs.Words.{AreKept, Goes, New, Ok, Rollback, Stored, left_parts, map, meaning, parts, refl, rollback, seen, subst, sym, ◌≡◌}
+use Rattle.roll_core.proofs.Returning.{all_may_leave, returns_old}
 use Rattle.roll_core.proofs.rollback.return_old.Goals as goal
 
 pub returns : goal.returns
@@ -14,3 +14,6 @@ returns c =
       kept = subst AreKept (sym is) step.1;
       err = tt;
     }
+
+pub leave-requires : goal.leave-requires
+leave-requires c = all_may_leave (map seen c.args.tables.now.items)

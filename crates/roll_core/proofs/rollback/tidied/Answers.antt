@@ -1,5 +1,5 @@
 use Rattle.roll_core.proofs.Words.{AreKept, Goes, List, None, Ok, Rollback, Stored, ap, map, meaning, parts, refl, rollback, seen, subst, sym, tidied_back_parts, tidied_table, ◌≡◌, ◌∙◌}
-use Rattle.roll_core.specs.declared.store.StoredTable.{StoredTable}
+use Rattle.roll_core.specs.Seen.{OwnTable as StoredTable}
 use Rattle.roll_core.proofs.Stepped.{same_parts, tidies_back}
 use Rattle.roll_core.proofs.rollback.tidied.Goals as goal
 

@@ -1,5 +1,5 @@
 use Rattle.roll_core.proofs.Words.{arith, former_seen, option_map, sym, Option, OwnFormer, Goes, AreKept, ◌≡◌, Err, List, Ok, map, refl, subst, start_read, Answers, meant, parts, seen, startable}
-use Rattle.roll_core.specs.declared.store.StoredTable.{StoredTable}
+use Rattle.roll_core.specs.Seen.{OwnTable as StoredTable}
 use Rattle.roll_core.proofs.Starting.{numbers_fit, start_refused, startable_ok, starts, stops}
 use Rattle.roll_core.proofs.Stepped.{same_parts}
 use Rattle.roll_core.proofs.Words.reply_of
