@@ -1,5 +1,5 @@
 -- A row of the layout that is as its mark says is a row of both versions, and each such row is as its mark says.
-use Rattle.std.proofs.Common.{◌≡◌, ◌∙◌, ⊎_elim, inl, inr, ℕ, suc, ◌+◌, ◌-◌, List, [], ◌∷◌, ◌++◌, Bool, true, false, ◌&&◌, Option, Some, None, add-zero, append_assoc, drop, length, length-append, map, take, if◌then◌else◌, ap, refl, sym, subst, arith}
+use Rattle.std.proofs.Common.{◌≡◌, ◌∙◌, ⊎_elim, inl, inr, ℕ, suc, ◌+◌, ◌-◌, List, [], ◌∷◌, ◌++◌, Bool, true, false, ◌&&◌, Option, Some, None, add-zero, append_assoc, drop, length, length-append, map, if◌then◌else◌, ap, refl, sym, subst, arith}
 use Rattle.std.specs.Prelude.{slice_get, slice_index_or}
 use Rattle.std.proofs.lemmas.List.{get_or-drop, length-map, take-append-drop}
 use Rattle.sql_base.specs.declared.shapes.Column.{Column}

@@ -6,6 +6,8 @@ pub mod laws;
 mod pairs;
 mod places;
 mod rest;
+#[cfg(test)]
+mod tests;
 
 pub use pairs::fits_pair;
 pub use places::{fits_laid, fits_trimmed};
