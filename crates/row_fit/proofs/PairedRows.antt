@@ -78,7 +78,8 @@ Reads f next row = (k : ℕ) → f (next + k) ≡ slice_index_or row k Null
 first_read : (f : ℕ → Value) (next : ℕ) (v : Value) (row : List Value) → Reads f next (v ∷ row) → f next ≡ v
 first_read f next v row same = ap f (sym (add-zero next)) ∙ same 0
 
-later_reads : (f : ℕ → Value) (next : ℕ) (v : Value) (row : List Value) → Reads f next (v ∷ row) → Reads f (next + 1) row
+later_reads : (f : ℕ → Value) (next : ℕ) (v : Value) (row : List Value) → Reads f next (v ∷ row)
+    → Reads f (next + 1) row
 later_reads f next v row same k =
     let step : next + 1 + k ≡ next + suc k = omega arith in
     ap f step ∙ same (suc k)
@@ -147,7 +148,8 @@ stored_again lengths pair stored p laid unmarked =
     ap (λ all. fits_places all stored) (sym columns) ∙ laid in
     let count = length pair.old.columns in
     let behind : fits_places (more ++ mark_place pair.layout.mark) (drop count stored) ≡ true =
-    subst (λ n. fits_places (more ++ mark_place pair.layout.mark) (drop n stored) ≡ true) (length-map pair.old.columns place_of) (behind_fits own (more ++ mark_place pair.layout.mark) stored fit) in
+    subst (λ n. fits_places (more ++ mark_place pair.layout.mark) (drop n stored) ≡ true)
+    (length-map pair.old.columns place_of) (behind_fits own (more ++ mark_place pair.layout.mark) stored fit) in
     let parts : Behind shadow (mark_place pair.layout.mark) (drop count stored) =
     shadows_read (λ at. slice_index_or stored at Null) count pair.new.columns pair.lens.new_cols
     (mark_place pair.layout.mark) (drop count stored) (lengths pair p).1 behind

@@ -1,4 +1,6 @@
-//! Whether the values of a stored row fit its form, for rows that come from outside.
+//! Whether the values of a stored row fit its form, for rows that come from outside: a row of a table that both versions
+//! have, while both stand (`fits_pair`), once one of the two is gone (`fits_laid`), and after the lost columns are
+//! removed (`fits_trimmed`).
 #![tactic(auto)]
 
 mod equal;

@@ -36,14 +36,15 @@ fn mark_of(pair: &Pair, values: &[Value]) -> Option<bool>
 
 /// Whether a row is what START leaves of its old half.
 fn is_begun(alloc: Global, pair: &Pair, values: &[Value]) -> Result<bool, NoMemory>
-    ensures { IfOk result (λ same. IsTrue same ↔ (values.now ≡ stored.begun pair.now (stored.old_view pair.now values.now))) }
+    ensures { IfOk result
+        (λ same. IsTrue same ↔ (values.now ≡ stored.begun pair.now (stored.old_view pair.now values.now))) }
 {
     let old = old_view(alloc, pair, values)?;
     let row = begun(alloc, pair, old.as_slice())?;
     Ok(are_same(values, row.as_slice()))
 }
 
-/// Whether a row is as its mark says.
+/// Whether a row is as its mark says: the mark isn't NULL, and where it is true the row is what START leaves.
 fn fits_mark(alloc: Global, pair: &Pair, values: &[Value]) -> Result<bool, NoMemory>
     ensures { IfOk result (λ fits. IsTrue fits ↔ spec.FitsMark pair.now values.now (spec.mark_of pair.now values.now)) }
 {
@@ -57,7 +58,7 @@ fn fits_mark(alloc: Global, pair: &Pair, values: &[Value]) -> Result<bool, NoMem
 /// Whether values are a row that a table of both versions may hold while both stand: a filled one, or one that is still
 /// to be filled.
 ///
-/// They have to fit the layout. Where the table has a mark that isn't NULL; where it is true the row is what START left
+/// They fit the layout, the mark, where the table has one, isn't NULL, and where it is true the row is what START leaves
 /// of its old half. An error is want of memory. The rule is our own.
 pub fn fits_pair(alloc: Global, pair: &Pair, values: &[Value]) -> Result<bool, NoMemory>
     requires { IsPair pair.now }

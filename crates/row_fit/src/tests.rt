@@ -19,7 +19,8 @@ fn two<T: Drop>(alloc: Global, one: T, other: T) -> Result<List<T>, NoMemory>
 }
 
 fn column(alloc: Global, name: &[u8], ty: Ty) -> Result<Column, NoMemory>
-    ensures { IfOk result (λ column. column ≡ record { name = name.now; ty = ty; nullable = false; default = Value.Null }) }
+    ensures { IfOk result
+        (λ column. column ≡ record { name = name.now; ty = ty; nullable = false; default = Value.Null }) }
 {
     Ok(Column {
         name: Name::from_slice(alloc, name)?,
@@ -97,19 +98,24 @@ fn row(alloc: Global, words: &str) -> Result<List<Value>, Fail> {
 
 /// Values, and whether they are a row while both versions stand, one of the layout, and one of what C2 leaves of it.
 const ROWS: &[(&str, bool, bool, bool)] = &[
+    // still to be filled, and filled
     ("1 a NULL true", true, true, false),
     ("1 a 5 false", true, true, false),
     ("1 NULL NULL false", true, true, false),
+    // marked beside a value that START doesn't leave, and a mark that is NULL
     ("1 a 5 true", false, true, false),
     ("1 a 5 NULL", false, true, false),
+    // a value too few, one too many, and values of other types
     ("1 a 5", false, false, false),
     ("1 a 5 false 6", false, false, false),
     ("1 2 5 false", false, false, false),
     ("1 a b false", false, false, false),
+    // what C2 leaves, and then the same three
     ("1 5", false, false, true),
     ("1 NULL", false, false, true),
-    ("1 a", false, false, false),
+    ("1", false, false, false),
     ("1 5 false", false, false, false),
+    ("1 a", false, false, false),
 ];
 
 #[test]
