@@ -1,0 +1,2 @@
+pub mod PairedRows
+pub mod Rests
