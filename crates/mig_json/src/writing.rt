@@ -1,10 +1,9 @@
 //! From a migration to its canonical text, by way of its JSON value.
 
-ghost use Rattle.std.specs.Prelude.{◌≡◌, ℕ, List, map, IfOk};
+ghost use Rattle.std.specs.Prelude.{◌≡◌, map, IfOk};
 ghost use Rattle.serde_json.specs.Data.{no_members};
 ghost use Rattle.serde_json.specs.Data as json;
 ghost use Rattle.serde_json.specs.View.{view, members_view};
-ghost use Rattle.mig_json.specs.Migration.{IsReading};
 ghost use Rattle.mig_json.specs.Table as form;
 ghost use Rattle.mig_json.specs.Writing as spec;
 ghost use Rattle.mig_json.specs.Writing.{members_with};
@@ -17,7 +16,6 @@ use crate::put::{
 use mig_lens::{ColumnDef, Migration, Op, Ways};
 use serde_json::{Map, Value};
 use sql_base::{Check, Expr, Name, NoMemory, SqlBytes, Ty};
-use sql_parse::{read_back, trees_have_text};
 use std::alloc::Global;
 
 // ---- the members of each operation
@@ -329,14 +327,12 @@ fn migration_value(alloc: Global, m: &Migration) -> Result<Value, NoMemory>
 
 /// The canonical text of a migration: the compact text of its JSON value, with keys in byte order, members at their
 /// default left out, expressions in canonical text and types by their first name. Bytes of a name that aren't UTF-8
-/// stand as U+FFFD; a migration that was read has none. What is written of a migration that was read is read as that
-/// migration. An error is want of memory.
+/// stand as U+FFFD; a migration that was read has none. `laws::canonical_texts_are_read` has that what is written of a
+/// migration that was read is read as that migration. An error is want of memory.
+#[tactic(auto, unfolding(crate::specs::Writing::canonical_text), using(crate::proofs::Plain::migration_plain, crate::proofs::Compact::no_float))]
 pub fn write_migration(alloc: Global, m: &Migration) -> Result<SqlBytes, NoMemory>
-    ensures text { IfOk result (λ out. out ≡ spec.canonical_text m.now) }
-    ensures reads_back { IfOk result (λ out. (text : List ℕ) → IsReading text m.now → IsReading out m.now) }
+    ensures { IfOk result (λ out. out ≡ spec.canonical_text m.now) }
 {
-    read_back();
-    trees_have_text();
     let value = migration_value(alloc, m)?;
     let text = value.to_vec(alloc)?;
     Ok(SqlBytes::from_vec(text))
