@@ -11,9 +11,11 @@ use Rattle.serde_json.proofs.Texts.{print-outline}
 use Rattle.serde_json.specs.Data.{Data, null, boolean, number, string, array, object, Items, no_items, item, Members, no_members, member, put}
 use Rattle.serde_json.specs.Read.{of_json, of_items, of_members, max_depth, read}
 use Rattle.serde_json.specs.Written.{outline, items_outline, members_outline, has_float, items_have_float, members_have_float, comma_if, compact_text, items_text, members_text}
+use Rattle.mig_lens.specs.declared.migrations.Migration.{Migration}
+use Rattle.mig_json.specs.Writing.{json_of}
 use Rattle.mig_json.proofs.Again.{AreBefore, onto, onto_end, onto_onto, before_next, put_last}
 use Rattle.mig_json.proofs.Ordered.{IsBefore}
-use Rattle.mig_json.proofs.Plain.{IsClean, AreClean, HasClean, IsPlain}
+use Rattle.mig_json.proofs.Plain.{IsClean, AreClean, HasClean, IsPlain, migration_plain}
 
 -- ---- no number
 
@@ -22,21 +24,24 @@ or_both true b e f = absurd cc
 or_both false b e f = f
 
 mutual
-  pub no_float : (d : Data) → IsClean d → has_float d ≡ false
-  no_float null h = refl
-  no_float (boolean b) h = refl
-  no_float (number n) h = absurd h
-  no_float (string s) h = refl
-  no_float (array ds) h = no_floats ds h
-  no_float (object ms) h = no_float_in ms h
+  exact : (d : Data) → IsClean d → has_float d ≡ false
+  exact null h = refl
+  exact (boolean b) h = refl
+  exact (number n) h = absurd h
+  exact (string s) h = refl
+  exact (array ds) h = no_floats ds h
+  exact (object ms) h = no_float_in ms h
 
   no_floats : (ds : Items) → AreClean ds → items_have_float ds ≡ false
   no_floats no_items h = refl
-  no_floats (item d ds) h = or_both (has_float d) _ (no_float d h.0) (no_floats ds h.1)
+  no_floats (item d ds) h = or_both (has_float d) _ (exact d h.0) (no_floats ds h.1)
 
   no_float_in : (ms : Members) → HasClean ms → members_have_float ms ≡ false
   no_float_in no_members h = refl
-  no_float_in (member k d ms) h = or_both (has_float d) _ (no_float d h.2) (no_float_in ms h.3)
+  no_float_in (member k d ms) h = or_both (has_float d) _ (exact d h.2) (no_float_in ms h.3)
+
+pub no_float : (m : Migration) → has_float (json_of m) ≡ false
+no_float m = exact (json_of m) (migration_plain m).clean
 
 mutual
   numbers : (d : Data) → IsClean d → HasNumbers (outline d)
