@@ -146,26 +146,30 @@ abbrev row : List (List ℕ × Expr) → Members
 row [] = no_members
 row (x ∷ xs) = member x.0 (expression_data x.1) (row xs)
 
-abbrev onto : Members → Members → Members
+abbrev pub onto : Members → Members → Members
 onto no_members ns = ns
 onto (member k d ms) ns = member k d (onto ms ns)
 
+pub onto_end : (ms : Members) → onto ms no_members ≡ ms
+onto_end no_members = refl
+onto_end (member k d ms) = ap (member k d) (onto_end ms)
+
 -- the members' keys come before this one
-abbrev AreBefore : Members → List ℕ → Type 0
+abbrev pub AreBefore : Members → List ℕ → Type 0
 AreBefore no_members k = Unit {0}
 AreBefore (member l e ms) k = (slice_cmp nat_cmp l k ≡ Less) × AreBefore ms k
 
-put_last : (k : List ℕ) (d : Data) (ms : Members) → AreBefore ms k → put k d ms ≡ onto ms (member k d no_members)
+pub put_last : (k : List ℕ) (d : Data) (ms : Members) → AreBefore ms k → put k d ms ≡ onto ms (member k d no_members)
 put_last k d no_members h = refl
 put_last k d (member l e ms) h =
     let above : slice_cmp nat_cmp k l ≡ Greater = nat_list_cmp_total.antisymm k l ∙ ap ordering_reverse h.0 in
     rw above (ap (member l e) (put_last k d ms h.1))
 
-onto_onto : (ms : Members) (k : List ℕ) (d : Data) (ns : Members) → onto (onto ms (member k d no_members)) ns ≡ onto ms (member k d ns)
+pub onto_onto : (ms : Members) (k : List ℕ) (d : Data) (ns : Members) → onto (onto ms (member k d no_members)) ns ≡ onto ms (member k d ns)
 onto_onto no_members k d ns = refl
 onto_onto (member l e ms) k d ns = ap (member l e) (onto_onto ms k d ns)
 
-before_next : (ms : Members) (k : List ℕ) (d : Data) (q : List ℕ) → AreBefore ms k → slice_cmp nat_cmp k q ≡ Less → AreBefore (onto ms (member k d no_members)) q
+pub before_next : (ms : Members) (k : List ℕ) (d : Data) (q : List ℕ) → AreBefore ms k → slice_cmp nat_cmp k q ≡ Less → AreBefore (onto ms (member k d no_members)) q
 before_next no_members k d q h less = (less, tt)
 before_next (member l e ms) k d q h less = (nat_list_cmp_total.trans l k q h.0 less, before_next ms k d q h.1 less)
 
@@ -175,11 +179,7 @@ AreBeforeAll ms [] = Unit {0}
 AreBeforeAll ms (x ∷ xs) = AreBefore ms x.0
 
 in_row : (ms : Members) (xs : List (List ℕ × Expr)) → AreBeforeAll ms xs → PairsFit xs → fold with_pair ms xs ≡ onto ms (row xs)
-in_row ms [] h fit = sym (end_of ms)
-  where
-    end_of : (ms : Members) → onto ms no_members ≡ ms
-    end_of no_members = refl
-    end_of (member k d ms) = ap (member k d) (end_of ms)
+in_row ms [] h fit = sym (onto_end ms)
 in_row ms (x ∷ xs) h fit =
     let d = expression_data x.1 in
     let put_at : with_pair ms x ≡ onto ms (member x.0 d no_members) = ap (λ k. put k d ms) (part_text x.0 fit.1.0) ∙ put_last x.0 d ms h in

@@ -2,10 +2,9 @@
 use Rattle.std.proofs.Common.{◌≡◌, ℕ, ◌≤◌, List, [], ◌∷◌, ◌++◌, map, length, codes, Bool, true, false, Option, Some, None, option_map, unwrap_or, if◌then◌else◌, refl, sym, ap, ap₂, subst, arith}
 use Rattle.std.specs.List.{AllByRecursion}
 use Rattle.std.specs.Prelude.{IfSome}
-use Rattle.std.specs.Str.{IsUtf8}
 use Rattle.serde_json.specs.Data.{Data, null, boolean, number, object, array, string, Items, no_items, item, no_members, member, put}
 use Rattle.serde_json.specs.Find.{get, get_member}
-use Rattle.serde_json.specs.Read.{read}
+use Rattle.serde_json.specs.Read.{max_depth}
 use Rattle.serde_json.specs.View.{items_of}
 use Rattle.serde_json.specs.Written.{compact_text, items_text}
 use Rattle.sql_base.specs.declared.exprs.Expr.{Expr}
@@ -23,15 +22,17 @@ use Rattle.mig_json.specs.declared.members.Operation.TheVariants as operation
 use Rattle.mig_json.specs.Demand.{max_expression}
 use Rattle.mig_json.specs.Kind as kind
 use Rattle.mig_json.specs.Kind.{ValueOf, ValuesOf, Is, Has, AreItems, needs, is_word}
-use Rattle.mig_json.specs.Migration.{IsOperation, IsMigration, IsReading}
+use Rattle.mig_json.specs.Migration.{IsOperation, IsMigration, CanonicalTextsAreRead}
 use Rattle.mig_json.specs.Name.{is_name}
-use Rattle.mig_json.specs.Reading.{Asked, asked, max_text}
+use Rattle.mig_json.specs.Reading.{Asked, asked}
 use Rattle.mig_json.specs.Table.{check, check_of, named, column, column_of, form, operation_of}
 use Rattle.mig_json.specs.Writing.{data_of, text_data, unless_false, unless_null, unless_empty, check_values, column_values, altered_values, title, titled, operation_data, json_of, canonical_text}
 use Rattle.mig_json.proofs.Again.{again, is_sound}
+use Rattle.mig_json.proofs.Compact.{compact_utf8, compact_reads}
 use Rattle.mig_json.proofs.Fitting.{AllFit, IsSpelled, IsFilled, PairsFit, fits, name_text}
 use Rattle.mig_json.proofs.Lengths.{first_shorter, found_shorter, item_shorter, items_shorter}
 use Rattle.mig_json.proofs.Ordered.{IsOrdered, AreOrdered, found_ordered, read_ordered}
+use Rattle.mig_json.proofs.Plain.{deeper, migration_plain}
 use Rattle.mig_json.proofs.Texts.{json_in-Some}
 
 -- ---- members at their default are left out
@@ -248,15 +249,16 @@ module _ (read_back : ReadBack) where
         let order_of = listed (get (codes "operations") value) h.values h.held (found_ordered (codes "operations") value order) in
         subst (λ (m : Migration). IsMigration (json_of m) m) (sym h.is) (named_again h.name h.operations h.values h.is_name order_of h.are (subst (λ (m : Migration). length (canonical_text m) ≤ max_expression) h.is short))
 
-    -- What is written of a migration that a text reads as is read as that migration.
-    pub reads_again : (text : List ℕ) (m : Migration) (out : List ℕ) → out ≡ canonical_text m → IsUtf8 out → read out ≡ Some (json_of m) → IsReading text m → IsReading out m
-    reads_again text m out is utf8 reads h =
+    pub canonical_texts_are_read : CanonicalTextsAreRead
+    unfolding canonical_text
+    canonical_texts_are_read text m h =
+        let plain = migration_plain m in
         let order : IsOrdered h.spelled.value = let held : IfSome (Some h.spelled.value) IsOrdered = subst (λ o. IfSome o IsOrdered) h.spelled.json (read_ordered text) in held in
         record {
           spelled = record {
-            short = subst (λ t. length t ≤ max_text) (sym is) h.within;
+            short = h.within;
             value = json_of m;
-            json = json_in-Some out (json_of m) utf8 reads;
+            json = json_in-Some (canonical_text m) (json_of m) (compact_utf8 (json_of m) plain.clean) (compact_reads (json_of m) (deeper 9 max_depth (json_of m) (omega arith) plain));
             is = migration_again h.spelled.value m order h.spelled.is h.within;
           };
           within = h.within;

@@ -1,6 +1,7 @@
 pub mod Again
 pub mod Arrays
 pub mod Back
+pub mod Compact
 pub mod Demands
 pub mod Elements
 pub mod Fitting
@@ -8,6 +9,7 @@ pub mod Keys
 pub mod Lengths
 pub mod Literals
 pub mod Loops
+pub mod Lossy
 pub mod Meant
 pub mod Ordered
 pub mod Pairs

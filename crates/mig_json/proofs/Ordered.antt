@@ -36,10 +36,10 @@ abbrev mutual
 
 -- ---- a member more
 
-less_of_greater : (k l : List ℕ) → slice_cmp nat_cmp k l ≡ Greater → slice_cmp nat_cmp l k ≡ Less
+pub less_of_greater : (k l : List ℕ) → slice_cmp nat_cmp k l ≡ Greater → slice_cmp nat_cmp l k ≡ Less
 less_of_greater k l e = nat_list_cmp_total.antisymm l k ∙ ap ordering_reverse e
 
-before_put : (l k : List ℕ) (d : Data) (ms : Members) → slice_cmp nat_cmp l k ≡ Less → IsBefore l ms → IsBefore l (put k d ms)
+pub before_put : (l k : List ℕ) (d : Data) (ms : Members) → slice_cmp nat_cmp l k ≡ Less → IsBefore l ms → IsBefore l (put k d ms)
 before_put l k d no_members low h = low
 before_put l k d (member m e ms) low h = by_place (slice_cmp nat_cmp k m)
   where

@@ -96,7 +96,7 @@ operator_ascii op.Mul = refl
 operator_ascii op.Div = refl
 operator_ascii op.Rem = refl
 
-type_ascii : (to : Ty) → are_ascii (type_name to) ≡ true
+pub type_ascii : (to : Ty) → are_ascii (type_name to) ≡ true
 type_ascii ty.Bigint = refl
 type_ascii ty.Text = refl
 type_ascii ty.Boolean = refl

@@ -78,3 +78,7 @@ TextsFailOnce = (text : List ℕ) (f g : JsonFault) → Fails text f → Fails t
 -- Want of memory is the fault of no text.
 abbrev pub FaultsWantNothing : Type 0
 FaultsWantNothing = (text : List ℕ) (f : JsonFault) → Fails text f → f ≢ NoMemory
+
+-- The canonical text of a migration that a text reads as is read as that migration.
+abbrev pub CanonicalTextsAreRead : Type 0
+CanonicalTextsAreRead = (text : List ℕ) (m : Migration) → IsReading text m → IsReading (canonical_text m) m
