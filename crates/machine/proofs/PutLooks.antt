@@ -2,6 +2,7 @@
 use Rattle.std.proofs.Common.{◌≡◌, ◌∙◌, ℕ, ◌+◌, ◌≤◌, ℤ, List, [], ◌∷◌, Bool, true, false, not, ◌&&◌, ◌||◌, Option, Some, None, Result, Ok, Err, is_none, refl, sym, ap, subst, if◌then◌else◌, length, filter, map, option_map, arith}
 use Rattle.std.specs.List.{list_all}
 use Rattle.std.specs.Option.{option_or}
+use Rattle.sql_base.specs.Laws.{and_false, and_true}
 use Rattle.sql_base.specs.Outcome.{and_then, every}
 use Rattle.mig_lens.specs.declared.columns.Lens.{Lens}
 use Rattle.mig_lens.specs.Layout.{has_mark}
@@ -11,7 +12,7 @@ use Rattle.row_rules.specs.Changes.{cause_together, changes, filled_row, key_cha
 use Rattle.row_rules.specs.Outcome.{map_fault, without}
 use Rattle.row_rules.specs.Site.{Beside, Site, touched, touched_by}
 use Rattle.machine.specs.MayPut.{clash_cause, is_changed, last_changes, lawful_row, made_table, may_hold, rows_gone, rows_left, unlawful}
-use Rattle.machine.specs.PutSteps.{fresh_rows, is_fresh, left_holds, looking_at, looking_site, made_beside}
+use Rattle.machine.specs.PutSteps.{fresh_rows, is_fresh, left_holds, looking_at, looking_site, made_beside, takes}
 use Rattle.machine.specs.Standing.{may_miss}
 use Rattle.machine.specs.State.{Shared, beside_on, lens_between, shared, table_on}
 use Rattle.machine.specs.Words.{Cause, Change, Halves, Kept, New, Old, Put, Remove, Side, State, Table}
@@ -136,6 +137,19 @@ left_step s number (Remove key) later = by_test (is_changed key later)
     by_test : (b : Bool) → list_all (may_hold s number) (rows_put (if b then last_changes later else Remove key ∷ last_changes later)) ≡ list_all (may_hold s number) (rows_left later)
     by_test true = refl
     by_test false = refl
+
+pub gone_step : (older : List Kept) (change : Change) (later : List Change) → rows_gone older (change ∷ later) ≡ one (takes older change later) + rows_gone older later
+gone_step older change later = by_test (is_changed key later)
+  where
+    key : ℤ
+    key = key_changed change
+
+    by_test : (b : Bool) → length (filter (λ key. has_key key older) (keys_changed (if b then last_changes later else change ∷ last_changes later))) ≡ one (has_key key older && not b) + rows_gone older later
+    by_test true =
+        let no : one (has_key key older && false) ≡ 0 = ap one (and_false (has_key key older)) in
+        omega (arith, no)
+    by_test false =
+        count_cons (λ key. has_key key older) key (keys_changed (last_changes later)) ∙ ap (λ b. one b + rows_gone older later) (sym (and_true (has_key key older)))
 
 -- A row that is left comes under a fresh key, or replaces an older one.
 pub few_come : (older : List Kept) (changes : List Change) → length (rows_left changes) ≤ rows_gone older changes + fresh_rows older changes

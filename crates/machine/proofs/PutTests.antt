@@ -124,20 +124,21 @@ pub record Holds (s : State) (number : ℕ) (row : Kept) : Type 0 where
 pub holds_true : (s : State) (number : ℕ) (row : Kept) → may_hold s number row ≡ true → Holds s number row
 holds_true s number row h =
     let first = both (stands_row s number row) _ h in
-    let second = both (lawful_row s number row) (lost_row s row) first.1 in
+    let second = both (lost_row s row) (lawful_row s number row) first.1 in
     record {
       stands = row_true s number row first.0;
-      lawful = lawful_true s number row (none_is (unlawful s number row) second.0);
+      lawful = lawful_true s number row (none_is (unlawful s number row) second.1);
       lost = λ none.
-          let is : (row.lost == 0) ≡ true = either_or (may_lose s.kind s.left) (row.lost == 0) second.1 none in
+          let is : (row.lost == 0) ≡ true = either_or (may_lose s.kind s.left) (row.lost == 0) second.0 none in
           grind (arith, nat_tests);
     }
 
 pub holds_test : (s : State) (number : ℕ) (row : Kept) → Holds s number row → may_hold s number row ≡ true
 holds_test s number row h =
     all_true (stands_row s number row) _ (row_test s number row h.stands)
-    (all_true (lawful_row s number row) (lost_row s row) (is_none_of (unlawful s number row) (lawful_test s number row h.lawful))
-    (or_either (may_lose s.kind s.left) (row.lost == 0) (λ none. let is : row.lost ≡ 0 = h.lost none in grind (arith, nat_tests))))
+    (all_true (lost_row s row) (lawful_row s number row)
+    (or_either (may_lose s.kind s.left) (row.lost == 0) (λ none. let is : row.lost ≡ 0 = h.lost none in grind (arith, nat_tests)))
+    (is_none_of (unlawful s number row) (lawful_test s number row h.lawful)))
 
 -- ---- nothing clashes
 

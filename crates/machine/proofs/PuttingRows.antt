@@ -60,9 +60,10 @@ rows_hold : Below → (s : State) (number : ℕ) (all : List Change) → IsState
 rows_hold below s number all stands lawful pass =
     let older = rows_of s number in
     let before = rows_stand s number stands in
-    let left = rows_left all in
-    (left_each below.order (RowStands s number) all older before.0 (each_so (Holds s number) (RowStands s number) (λ row h. h.stands) left pass.left) (rows_each s number older before.1),
-    left_each below.order (IsLawfulRow s number) all older before.0 (each_so (Holds s number) (IsLawfulRow s number) (λ row h. h.lawful) left pass.left) (rows_lawful s number lawful.rows))
+    let left = rows_left all in (
+      left_each below.order (RowStands s number) all older before.0 (each_so (Holds s number) (RowStands s number) (λ row h. h.stands) left pass.left) (rows_each s number older before.1),
+      left_each below.order (IsLawfulRow s number) all older before.0 (each_so (Holds s number) (IsLawfulRow s number) (λ row h. h.lawful) left pass.left) (rows_lawful s number lawful.rows),
+    )
 
 still_stands : Below → (s : State) (number : ℕ) (all : List Change) → IsState s → IsLawful s → Passed s number all → IsState (with_changes s number all)
 still_stands below s number all stands lawful pass =

@@ -71,7 +71,7 @@ abbrev pub lost_row : State → Kept → Bool
 lost_row s row = may_lose s.kind s.left || row.lost == 0
 
 abbrev pub may_hold : State → ℕ → Kept → Bool
-may_hold s number row = stands_row s number row && (lawful_row s number row && lost_row s row)
+may_hold s number row = stands_row s number row && (lost_row s row && lawful_row s number row)
 
 -- ---- whether all rows may stand beside one another
 

@@ -38,6 +38,10 @@ abbrev pub is_put : Change → Bool
 is_put (Put row) = true
 is_put (Remove key) = false
 
+-- Whether a change replaces or removes one of these older rows, where no later change is of its key.
+abbrev pub takes : List Kept → Change → List Change → Bool
+takes older change later = has_key (key_changed change) older && not (is_changed (key_changed change) later)
+
 -- Whether a change puts a row of a key that no older row has; and how many do.
 abbrev pub is_fresh : List Kept → Change → Bool
 is_fresh older change = is_put change && not (has_key (key_changed change) older)

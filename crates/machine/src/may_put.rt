@@ -16,7 +16,9 @@ use crate::rows::MAX_ROWS;
 use crate::states::State;
 use crate::tables::{SharedTable, beside_on, shared, table_on};
 use mig_lens::{Cell, Kind, Lens, Side};
-use row_rules::{BesideRef, Change, Job, Kept, SiteRef, Stop, Table, TableRows, cause_together, changes};
+use row_rules::{
+    BesideRef, Change, Job, Kept, SiteRef, Stop, Table, TableRows, cause_together, changes,
+};
 use sql_base::{Copying, List, NoMemory, Shape, Value, row_fits, weight};
 use std::alloc::Global;
 
@@ -139,7 +141,7 @@ fn is_light(row: &Kept) -> bool
 // Whether nothing is wrong with a row that is looked at through this site of the old version: to fill it there changes
 // nothing.
 fn is_sound(alloc: Global, site: SiteRef<'_>, row: &Kept) -> Result<bool, NoMemory>
-    requires { site.entry.side ≡ Side.Old }
+    requires { site.side ≡ Side.Old }
     ensures { IfOk result (λ sound. sound ≡ is_none (accept.wrong (sites.site_of site.entry) row.now)) }
 {
     let row = Some(row.copy(alloc)?);
@@ -170,11 +172,17 @@ fn may_lose(frame: &State) -> bool
     }
 }
 
+// Whether a row has a lost weight only where rows may have one.
+fn loses_rightly(frame: &State, row: &Kept) -> bool
+    ensures { result ≡ spec.lost_row frame.now row.now }
+{
+    may_lose(frame) || row.lost == 0
+}
+
 fn may_hold(alloc: Global, frame: &State, number: u32, row: &Kept) -> Result<bool, NoMemory>
     ensures { IfOk result (λ may. may ≡ spec.may_hold frame.now number row.now) }
 {
-    let kept = may_lose(frame) || row.lost == 0;
-    if kept && stands(frame, number, row) {
+    if stands(frame, number, row) && loses_rightly(frame, row) {
         return is_lawful(alloc, frame, number, row);
     }
     Ok(false)
@@ -265,14 +273,21 @@ fn rows_left(changes: &[Change]) -> usize
     count
 }
 
+// Whether a change that is its key's last one replaces or removes an older row.
+fn takes<T: TableRows>(older: &T, change: &Change, later: &[Change]) -> bool
+    ensures { result ≡ steps.takes (T.rows older.now) change.now later.now }
+{
+    let key = key_changed(change);
+    older.has_key(key) && !is_changed(key, later)
+}
+
 // How many older rows they replace or remove.
 fn rows_gone<T: TableRows>(older: &T, changes: &[Change]) -> usize
     ensures { result ≡ spec.rows_gone (T.rows older.now) changes.now }
 {
     let mut count = 0;
     for (at, change) in changes.iter().enumerate() {
-        let key = key_changed(change);
-        if older.has_key(key) && !is_changed(key, &changes[at + 1..]) {
+        if takes(older, change, &changes[at + 1..]) {
             count += 1;
         }
     }
@@ -316,7 +331,11 @@ fn too_many<T: TableRows>(older: &T, count: u64, changes: &[Change]) -> bool
     if !passes_limit(count, fresh_rows(older, changes) as u64, 0) {
         return false;
     }
-    passes_limit(count, rows_left(changes) as u64, rows_gone(older, changes) as u64)
+    passes_limit(
+        count,
+        rows_left(changes) as u64,
+        rows_gone(older, changes) as u64,
+    )
 }
 
 // ---- all of it
