@@ -114,7 +114,7 @@ none_any (row ∷ rows) = none_any rows
 
 -- ---- a row is found by its key
 
-fresh_lookup : (side : Side) (key : ℤ) (rows : List Kept) → has_key key rows ≡ false → lookup (int_eq key) (present side rows) ≡ None
+pub fresh_lookup : (side : Side) (key : ℤ) (rows : List Kept) → has_key key rows ≡ false → lookup (int_eq key) (present side rows) ≡ None
 fresh_lookup side key [] h = refl
 fresh_lookup side key (row ∷ rows) h =
     let parts = neither (int_eq key row.key) (has_key key rows) h in
@@ -124,7 +124,7 @@ fresh_lookup side key (row ∷ rows) h =
     by_half None differ there = there
     by_half (Some values) differ there = ap (λ b. cond b (Some values) (lookup (int_eq key) (present side rows))) differ ∙ there
 
-above_each : (key : ℤ) (rows : List Kept) → Above key rows → Ascends rows → Each (λ row. int_eq row.key key ≡ false) rows
+pub above_each : (key : ℤ) (rows : List Kept) → Above key rows → Ascends rows → Each (λ row. int_eq row.key key ≡ false) rows
 above_each key [] a h = tt
 above_each key (row ∷ rows) a h = (eq_turns row.key key ∙ ap is_eq a, above_each key rows (above_less key row.key rows a (ascends_above row rows h)) (ascends_rest row rows h))
 
@@ -187,11 +187,11 @@ no_cause entries keys (unique ∷ uniques) h =
 
 -- ---- rows among others
 
-abbrev IsAmong : List Kept → Kept → Type 0
+abbrev pub IsAmong : List Kept → Kept → Type 0
 IsAmong [] row = ⊥
 IsAmong (first ∷ rows) row = (row ≡ first) ⊎ IsAmong rows row
 
-each_at : (P : Kept → Type 0) (rows : List Kept) (row : Kept) → Each P rows → IsAmong rows row → P row
+pub each_at : (P : Kept → Type 0) (rows : List Kept) (row : Kept) → Each P rows → IsAmong rows row → P row
 each_at P [] row h a = absurd a
 each_at P (first ∷ rows) row h (inl is) = subst P (sym is) h.0
 each_at P (first ∷ rows) row h (inr there) = each_at P rows row h.1 there

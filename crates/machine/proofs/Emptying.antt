@@ -220,7 +220,7 @@ module _ (p : ℤ → Bool) (rows : List Kept) (at : (key : ℤ) → p key ≡ t
 
 -- ---- some row is filled
 
-same_key : (x y : ℤ) → int_eq x y ≡ true → x ≡ y
+pub same_key : (x y : ℤ) → int_eq x y ≡ true → x ≡ y
 same_key x y h = by_order (int_cmp x y) refl h
   where
     by_order : (o : Ordering) → int_cmp x y ≡ o → is_eq o ≡ true → x ≡ y

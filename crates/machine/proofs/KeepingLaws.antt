@@ -105,7 +105,7 @@ module _ (below : Below) (s : State) (stands : IsState s) (lawful : IsLawful s) 
         rows = with_rows_lawful s number rows lawful.rows (changed_each (IsLawfulRow s number) all older put (rows_lawful s number lawful.rows));
         unique = changed_unique s number all (rows_stand s number stands).0 (below.order all older (rows_stand s number stands).0) lawful.unique
             (subst (λ table. clashes_on table Old rows (keys_changed all) ≡ None) at.old quiet.old_side)
-            (subst (λ table. clashes_on table New rows (keys_changed all) ≡ None) at.new quiet.new_side);
+            (λ _. subst (λ table. clashes_on table New rows (keys_changed all) ≡ None) at.new quiet.new_side);
       }
 
 -- ---- lines

@@ -54,7 +54,7 @@ nothing_clashes (Some table) side rows keys e = ap (λ entries. first_some (uniq
 empty_unique : (t : State) (number : ℕ) → HasNoClash t (number, [])
 empty_unique t number = record { old = nothing_clashes (table_on t Old number) Old [] [] refl; new = λ _. nothing_clashes (table_on t New number) New [] [] refl }
 
-found_unique : (s : State) (number : ℕ) → Each (HasNoClash s) s.tables → HasNoClash s (number, rows_of s number)
+pub found_unique : (s : State) (number : ℕ) → Each (HasNoClash s) s.tables → HasNoClash s (number, rows_of s number)
 found_unique s number h =
     rows_so (λ number rows. HasNoClash s (number, rows)) number
     (empty_unique s number) s.tables h
@@ -71,14 +71,14 @@ with_rows_unique s number rows h r =
 pub changed_unique : (s : State) (number : ℕ) (all : List Change) → Ascends (rows_of s number) →
     Ascends (after_changes all (rows_of s number)) → Each (HasNoClash s) s.tables →
     clashes_on (table_on s Old number) Old (after_changes all (rows_of s number)) (keys_changed all) ≡ None →
-    clashes_on (table_on s New number) New (after_changes all (rows_of s number)) (keys_changed all) ≡ None →
+    (may_miss (shared s number) ≡ true → clashes_on (table_on s New number) New (after_changes all (rows_of s number)) (keys_changed all) ≡ None) →
     Each (HasNoClash (with_rows s number (after_changes all (rows_of s number)))) (with_rows s number (after_changes all (rows_of s number))).tables
 changed_unique s number all ascend after h old_looked new_looked =
     let older = rows_of s number in
     let before = found_unique s number h in
     with_rows_unique s number (after_changes all older) h (record {
       old = changed_without_clash (table_on s Old number) Old all older ascend after before.old old_looked;
-      new = λ k. changed_without_clash (table_on s New number) New all older ascend after (before.new k) new_looked;
+      new = λ k. changed_without_clash (table_on s New number) New all older ascend after (before.new k) (new_looked k);
     })
 
 -- ---- START

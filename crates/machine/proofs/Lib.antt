@@ -14,6 +14,7 @@ pub mod GivenValues
 pub mod Joining
 pub mod KeepingLaws
 pub mod Lanes
+pub mod LastChanges
 pub mod Lasting
 pub mod LawfulRows
 pub mod LawfulTables
@@ -26,6 +27,9 @@ pub mod Outcomes
 pub mod Pairs
 pub mod Phased
 pub mod Placing
+pub mod PutLooks
+pub mod PutTests
+pub mod PuttingRows
 pub mod Refusing
 pub mod Replacing
 pub mod Replying

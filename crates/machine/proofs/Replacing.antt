@@ -1,6 +1,6 @@
 -- Tables of a state whose rows are replaced.
-use Rattle.std.proofs.Common.{◌≡◌, ℕ, ◌+◌, ◌≤◌, List, [], ◌∷◌, Bool, true, false, ◌==◌, Some, refl, sym, ap, subst, if◌then◌else◌, length, map, find, sum_by, arith, le_of_lt, le_of_eq, lt_of_le_of_lt}
-use Rattle.std.specs.List.{AllByRecursion as Each, list_all}
+use Rattle.std.proofs.Common.{◌≡◌, ◌∙◌, ℕ, ◌+◌, ◌≤◌, List, [], ◌∷◌, Bool, true, false, ◌||◌, ◌==◌, nat_eq, Some, refl, sym, ap, subst, if◌then◌else◌, length, map, find, sum_by, arith, le_of_lt, le_of_eq, lt_of_le_of_lt}
+use Rattle.std.specs.List.{AllByRecursion as Each, list_all, list_any}
 use Rattle.std.specs.Option.{option_map_or}
 use Rattle.std.proofs.lemmas.Bool.Decides.{nat_tests}
 use Rattle.std.proofs.lemmas.List.Sums.{sum_by-cons}
@@ -127,6 +127,24 @@ replaced_stands s number rows stands a r lost few =
       lost = λ none. record { columns = (stands.lost none).columns; rows = replaced_so (λ number rows. NoneLost rows) number rows (lost none) s.tables (stands.lost none).rows };
     }
 
+-- In a table of the state they are the rows of its number.
+replaced_found : (number : ℕ) (rows : List Kept) (tables : List (ℕ × List Kept)) → list_any (nat_eq number) (map (λ table. table.0) tables) ≡ true → found_rows number (map (replaced number rows) tables) ≡ rows
+replaced_found number rows [] known = cc
+replaced_found number rows (table ∷ tables) known = by_test (table.0 == number) refl (replaced_found number rows tables)
+  where
+    by_test : (b : Bool) → (table.0 == number) ≡ b → (list_any (nat_eq number) (map (λ table. table.0) tables) ≡ true → found_rows number (map (replaced number rows) tables) ≡ rows) →
+        found_rows number ((if◌then◌else◌ {A = ℕ × List Kept} b (number, rows) table) ∷ map (replaced number rows) tables) ≡ rows
+    by_test true e there =
+        let itself : (number == number) ≡ true = grind (arith, nat_tests) in
+        ap (λ b. option_map_or (λ (table : ℕ × List Kept). table.1) (if b then Some (number, rows) else find {X = ℕ × List Kept} (λ table. table.0 == number) (map (replaced number rows) tables)) []) itself
+    by_test false e there =
+        let other : nat_eq number table.0 ≡ false = grind (arith, nat_tests) in
+        let known_there : list_any (nat_eq number) (map (λ table. table.0) tables) ≡ true = ap (λ b. b || list_any (nat_eq number) (map (λ table. table.0) tables)) (sym other) ∙ known in
+        ap (λ b. option_map_or (λ (table : ℕ × List Kept). table.1) (if b then Some table else find {X = ℕ × List Kept} (λ table. table.0 == number) (map (replaced number rows) tables)) []) e ∙ there known_there
+
+pub with_rows_found : (s : State) (number : ℕ) (rows : List Kept) → list_any (nat_eq number) (numbers_of s) ≡ true → rows_of (with_rows s number rows) number ≡ rows
+with_rows_found s number rows known = replaced_found number rows s.tables known
+
 -- ---- what is counted in all rows
 
 -- a number below all of these tables' is none of theirs
@@ -172,12 +190,37 @@ module _ (count : List Kept → ℕ) (none : count [] ≡ 0) where
           let two = sum_by-cons (λ (table : ℕ × List Kept). count table.1) table tables in
           omega (arith, one, two, there)
 
+  -- In a table of the state it is just that.
+  replaced_total_is : (number : ℕ) (rows : List Kept) (tables : List (ℕ × List Kept)) → NumbersAscend (map (λ table. table.0) tables) → list_any (nat_eq number) (map (λ table. table.0) tables) ≡ true → total (map (replaced number rows) tables) + count (found_rows number tables) ≡ total tables + count rows
+  replaced_total_is number rows [] h known = cc
+  replaced_total_is number rows (table ∷ tables) h known =
+      by_test (table.0 == number) refl (replaced_total_is number rows tables (rest_ascends table.0 (map (λ table. table.0) tables) h))
+    where
+      by_test : (b : Bool) → (table.0 == number) ≡ b → (list_any (nat_eq number) (map (λ table. table.0) tables) ≡ true → total (map (replaced number rows) tables) + count (found_rows number tables) ≡ total tables + count rows) →
+          total ((if b then (number, rows) else table) ∷ map (replaced number rows) tables) + count (option_map_or (λ table. table.1) (if b then Some table else find {X = ℕ × List Kept} (λ table. table.0 == number) tables) []) ≡ total (table ∷ tables) + count rows
+      by_test true e there =
+          let same : table.0 ≡ number = grind (arith, nat_tests) in
+          let rest = absent number rows table.0 tables h (le_of_eq (sym same)) in
+          let one = sum_by-cons (λ (table : ℕ × List Kept). count table.1) (number, rows) (map (replaced number rows) tables) in
+          let two = sum_by-cons (λ (table : ℕ × List Kept). count table.1) table tables in
+          let counts : total (map (replaced number rows) tables) ≡ total tables = ap total rest.0 in
+          omega (arith, one, two, counts)
+      by_test false e there =
+          let other : nat_eq number table.0 ≡ false = grind (arith, nat_tests) in
+          let known_there : list_any (nat_eq number) (map (λ table. table.0) tables) ≡ true = ap (λ b. b || list_any (nat_eq number) (map (λ table. table.0) tables)) (sym other) ∙ known in
+          let one = sum_by-cons (λ (table : ℕ × List Kept). count table.1) table (map (replaced number rows) tables) in
+          let two = sum_by-cons (λ (table : ℕ × List Kept). count table.1) table tables in
+          omega (arith, one, two, there known_there)
+
   -- With what was counted in the rows that were there before, there is now at most what there was before with what is counted in the new ones.
   pub with_rows_total : (s : State) (number : ℕ) (rows : List Kept) → IsState s → total (with_rows s number rows).tables + count (rows_of s number) ≤ total s.tables + count rows
   with_rows_total s number rows stands = replaced_total number rows s.tables stands.numbers
 
 pub with_rows_count : (s : State) (number : ℕ) (rows : List Kept) → IsState s → row_count (with_rows s number rows) + length (rows_of s number) ≤ row_count s + length rows
 with_rows_count = with_rows_total length refl
+
+pub with_rows_count_is : (s : State) (number : ℕ) (rows : List Kept) → IsState s → list_any (nat_eq number) (numbers_of s) ≡ true → row_count (with_rows s number rows) + length (rows_of s number) ≡ row_count s + length rows
+with_rows_count_is s number rows stands known = replaced_total_is length refl number rows s.tables stands.numbers known
 
 -- A table whose rows keep their keys: what a batch needs.
 pub refilled_stands : (s : State) (number : ℕ) (rows : List Kept) → IsState s → Ascends rows → RowsStand s number rows → (may_lose s.kind s.left ≡ false → NoneLost rows) → length rows ≤ length (rows_of s number) → IsState (with_rows s number rows)

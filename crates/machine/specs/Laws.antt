@@ -3,8 +3,8 @@ use Rattle.machine.specs.Migrate.{complete, may_not_start, not_filled, numbers_o
 use Rattle.machine.specs.Done.{CommandOutcome, Done, Stepped}
 use Rattle.phase_steps.specs.declared.phases.Phase.{Phase}
 use Rattle.phase_steps.specs.Phases.{may_complete, may_roll_back, next_completing, next_rolling_back}
-use Rattle.std.specs.Prelude.{◌≡◌, ◌<◌, ◌≤◌, ◌==◌, ℕ, ℤ, Bool, true, false, List, None, Ok, Err, map, is_none, sum_by, if◌then◌else◌, Option, Some, is_some}
-use Rattle.std.specs.List.{count_by, AllByRecursion}
+use Rattle.std.specs.Prelude.{◌≡◌, ◌<◌, ◌≤◌, ◌==◌, ℕ, ℤ, Bool, true, false, List, None, Ok, Err, map, is_none, nat_eq, sum_by, if◌then◌else◌, Option, Some, is_some}
+use Rattle.std.specs.List.{count_by, list_any, AllByRecursion}
 use Rattle.std.specs.Option.{option_map}
 use Rattle.sql_base.specs.declared.shapes.Shape.{Shape}
 use Rattle.sql_base.specs.declared.values.Value.{Value}
@@ -24,13 +24,14 @@ use Rattle.machine.specs.declared.states.State.{State}
 use Rattle.mig_lens.specs.Layout.{has_mark}
 use Rattle.mig_lens.specs.Lens.{forward, unfilled}
 use Rattle.row_rules.specs.Site.{shown, Beside, Site, number_of, shape_of}
-use Rattle.machine.specs.State.{Found, beginning, site_of, Shared, rows_of, shared, table_of, table_on, lens_among}
+use Rattle.machine.specs.MayPut.{may_put}
+use Rattle.machine.specs.State.{Found, beginning, site_of, Shared, rows_of, shared, table_of, table_on, lens_among, with_rows}
 use Rattle.machine.specs.Lawful.{IsLawful}
 use Rattle.machine.specs.Follows.{goes_on_completing, goes_on_filling, goes_on_rolling_back}
 use Rattle.machine.specs.Standing.{IsState, Ascends, RowStands, RowsStand, is_known}
 use Rattle.machine.specs.Statement.{max_rows, Shows, Writes, begun}
 use Rattle.machine.specs.Step.{IsPlainStep, LaneRun, LaneStep, Run, Step}
-use Rattle.row_rules.specs.Changes.{changes}
+use Rattle.row_rules.specs.Changes.{after_changes, changes}
 use Rattle.machine.specs.Sites.{ChangeAgrees, ChangeStands, HalvesAgree, JobStands, PairStands, SiteRow, SiteStands, TableStands}
 use Rattle.machine.specs.Words.{Change, Expr, Items, Job, Stmt, Both, Fate, Migration, Plan, Schema}
 
@@ -233,3 +234,19 @@ FilledRowsHaveHalves =
 -- What a migration begins with stands.
 abbrev pub StartsStand : Type 0
 StartsStand = (s : State) (m : Migration) (plan : Plan) → IsState s → may_not_start s m ≡ None → planned s m ≡ Ok plan → IsState (started s m.name plan)
+
+-- ---- rows from outside
+
+-- The state after changes of the rows of one table.
+abbrev pub with_changes : State → ℕ → List Change → State
+with_changes s number all = with_rows s number (after_changes all (rows_of s number))
+
+-- Changes that may be made in a lawful state that stands leave such a state.
+abbrev pub PutRowsKeepStates : Type 0
+PutRowsKeepStates = (s : State) (number : ℕ) (all : List Change) → IsState s → IsLawful s → may_put s number all ≡ true → IsState (with_changes s number all) × IsLawful (with_changes s number all)
+
+-- No others are refused in a table of the state: changes that leave such a state may be made.
+abbrev pub KeepingRowsMayBePut : Type 0
+KeepingRowsMayBePut =
+    (s : State) (number : ℕ) (all : List Change) → IsState s → list_any (nat_eq number) (numbers_of s) ≡ true →
+    IsState (with_changes s number all) → IsLawful (with_changes s number all) → may_put s number all ≡ true

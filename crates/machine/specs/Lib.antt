@@ -3,8 +3,10 @@ pub mod Done
 pub mod Follows
 pub mod Lawful
 pub mod Laws
+pub mod MayPut
 pub mod Migrate
 pub mod Plain
+pub mod PutSteps
 pub mod Sites
 pub mod Standing
 pub mod State

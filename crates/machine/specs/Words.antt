@@ -27,6 +27,7 @@ pub use Rattle.mig_lens.specs.declared.plans.Plan.{Plan}
 pub use Rattle.mig_lens.specs.Plan.{Table, table_numbered, lens_in}
 pub use Rattle.row_rules.specs.declared.kinds.Cause.{Cause}
 pub use Rattle.row_rules.specs.declared.kinds.Change.{Change}
+pub use Rattle.row_rules.specs.declared.kinds.Change.TheVariants.{Put, Remove}
 pub use Rattle.row_rules.specs.declared.kinds.Halves.{Halves}
 pub use Rattle.row_rules.specs.declared.kinds.Job.{Job}
 pub use Rattle.row_rules.specs.declared.kinds.Job.TheVariants as job

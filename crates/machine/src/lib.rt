@@ -5,6 +5,7 @@ mod complete;
 mod events;
 mod fill;
 pub mod laws;
+mod may_put;
 pub mod parts;
 mod phases;
 mod plain;

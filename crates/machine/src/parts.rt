@@ -1,6 +1,7 @@
 //! Parts of the plain step that look at no stored row, or at rows that they are given: for what computes the step over rows
 //! that it keeps otherwise.
 pub use crate::fill::{MAX_BATCH, may_not_fill};
+pub use crate::may_put::may_put;
 pub use crate::phases::phase_of;
 pub use crate::refusals::{not_valid, refused_batch};
 pub use crate::replies::{

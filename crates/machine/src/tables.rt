@@ -203,7 +203,7 @@ pub fn rows_of(s: &State, number: u32) -> &[Kept]
 }
 
 /// What the other version has of a table that both have, seen from a side.
-fn beside_on<'a>(side: Side, pair: SharedTable<'a>) -> BesideRef<'a>
+pub fn beside_on<'a>(side: Side, pair: SharedTable<'a>) -> BesideRef<'a>
     ensures { sites.beside_of result ≡ spec.beside_on side (plain.pair pair.entry) }
 {
     match side {
