@@ -1,5 +1,5 @@
 -- Which rows there are after changes, and how many: of each key its last change tells it.
-use Rattle.std.proofs.Common.{◌≡◌, ◌∙◌, ◌⊎◌, inl, inr, ⊎_elim, ℕ, ◌+◌, ℤ, List, [], ◌∷◌, Bool, true, false, cond, not, ◌||◌, ◌&&◌, refl, sym, ap, subst, true≢false, if◌then◌else◌, arith, map, filter, length, int_cmp, int_eq, Ordering, Less, Equal, Greater}
+use Rattle.std.proofs.Common.{◌≡◌, ◌∙◌, ◌⊎◌, inl, inr, ℕ, ◌+◌, ℤ, List, [], ◌∷◌, Bool, true, false, cond, not, ◌||◌, ◌&&◌, refl, sym, ap, subst, true≢false, if◌then◌else◌, arith, filter, length, int_cmp, int_eq, Ordering, Less, Equal, Greater}
 use Rattle.std.specs.List.{AllByRecursion as Each}
 use Rattle.std.specs.Ordering.{is_eq, match_ordering}
 use Rattle.row_rules.specs.declared.kinds.Change.{Change}

@@ -1,5 +1,5 @@
 -- What is looked at in rows from outside comes to what holds of the rows of a lawful state that stands.
-use Rattle.std.proofs.Common.{◌≡◌, ◌∙◌, ℕ, ℤ, List, [], ◌∷◌, Bool, true, false, ◌||◌, ◌==◌, Option, Some, None, is_none, refl, sym, ap, subst, if◌then◌else◌, int_eq, arith}
+use Rattle.std.proofs.Common.{◌≡◌, ◌∙◌, ℕ, ℤ, List, Bool, true, false, ◌||◌, ◌==◌, Option, Some, None, is_none, refl, ap, if◌then◌else◌, int_eq, arith}
 use Rattle.std.specs.Option.{option_or}
 use Rattle.std.proofs.lemmas.Bool.Decides.{nat_tests}
 use Rattle.sql_base.specs.Fit.{row_fits}

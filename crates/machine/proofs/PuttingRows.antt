@@ -1,7 +1,6 @@
 -- Changes from outside may be made exactly where they leave a lawful state that stands.
 use Rattle.std.proofs.Common.{◌≡◌, ◌∙◌, ℕ, ◌+◌, ◌≤◌, ℤ, List, [], ◌∷◌, Bool, true, false, not, ◌||◌, ◌&&◌, nat_eq, nat_lt, Option, Some, None, is_none, is_some, refl, sym, ap, subst, int_eq, length, map, arith}
 use Rattle.std.specs.List.{AllByRecursion as Each, list_all, list_any}
-use Rattle.std.specs.Map.{lookup}
 use Rattle.std.proofs.lemmas.Bool.Decides.{nat_tests}
 use Rattle.sql_base.specs.Laws.{all_true, both}
 use Rattle.sql_base.specs.declared.shapes.Unique.{Unique}
@@ -15,13 +14,13 @@ use Rattle.row_rules.specs.Changes.{after_changes, keys_changed}
 use Rattle.row_rules.specs.Site.{shape_of}
 use Rattle.machine.specs.Below.{Below}
 use Rattle.machine.specs.Lawful.{HasNoClash, IsLawful, IsLawfulRow}
-use Rattle.machine.specs.Laws.{KeepingRowsMayBePut, PutRowsKeepStates, with_changes}
-use Rattle.machine.specs.MayPut.{clash_cause, may_hold, may_put, rows_gone, rows_left, too_many}
+use Rattle.machine.specs.Laws.{FramesTell, KeepingRowsMayBePut, PutRowsKeepStates, with_changes}
+use Rattle.machine.specs.MayPut.{clash_cause, may_hold, may_put, may_put_beside, rows_gone, rows_left, too_many}
 use Rattle.machine.specs.Migrate.{numbers_of}
-use Rattle.machine.specs.Standing.{IsState, NoneLost, RowStands, may_lose, may_miss}
-use Rattle.machine.specs.State.{row_count, rows_of, table_on, shared}
+use Rattle.machine.specs.Standing.{IsState, NoneLost, RowStands, may_lose}
+use Rattle.machine.specs.State.{row_count, rows_of, table_on}
 use Rattle.machine.specs.Statement.{max_rows}
-use Rattle.machine.specs.Words.{Change, Kept, State}
+use Rattle.machine.specs.Words.{Change, Kept, Kind, Mode, Schema, State}
 use Rattle.machine.proofs.Clashes.{IsAmong, Quiet, all_quiet, each_at, fresh_lookup, no_cause}
 use Rattle.machine.proofs.Emptying.{same_key}
 use Rattle.machine.proofs.LastChanges.{count_after, left_among, left_each}
@@ -177,3 +176,13 @@ keeping_rows_may_be_put below s number all stands known after_stands after_lawfu
     all_true (list_all (may_hold s number) (rows_left all)) (is_none quiet && not many) (each_list (may_hold s number) (rows_left all) left)
     (all_true (is_none quiet) (not many) (is_none_of quiet (apart_test s number rows (keys_changed all) (apart_after s number all known after_lawful)))
     (few_after below s number all stands known after_stands.few))
+
+-- ---- what is looked at of the state
+
+pub frames_tell : FramesTell
+frames_tell s frame number all schema mode kind left =
+    ap (λ x. told x frame.mode frame.kind frame.left) schema ∙ ap (λ x. told s.schema x frame.kind frame.left) mode
+    ∙ ap (λ x. told s.schema s.mode x frame.left) kind ∙ ap (λ x. told s.schema s.mode s.kind x) left
+  where
+    told : Schema → Mode → Kind → ℕ → Bool
+    told schema mode kind left = may_put_beside (record s { schema = schema; mode = mode; kind = kind; left = left }) number (rows_of s number) (row_count s) all

@@ -24,8 +24,8 @@ use Rattle.machine.specs.declared.states.State.{State}
 use Rattle.mig_lens.specs.Layout.{has_mark}
 use Rattle.mig_lens.specs.Lens.{forward, unfilled}
 use Rattle.row_rules.specs.Site.{shown, Beside, Site, number_of, shape_of}
-use Rattle.machine.specs.MayPut.{may_put}
-use Rattle.machine.specs.State.{Found, beginning, site_of, Shared, rows_of, shared, table_of, table_on, lens_among, with_rows}
+use Rattle.machine.specs.MayPut.{may_put, may_put_beside}
+use Rattle.machine.specs.State.{Found, beginning, site_of, Shared, rows_of, shared, table_of, table_on, lens_among, row_count, with_rows}
 use Rattle.machine.specs.Lawful.{IsLawful}
 use Rattle.machine.specs.Follows.{goes_on_completing, goes_on_filling, goes_on_rolling_back}
 use Rattle.machine.specs.Standing.{IsState, Ascends, RowStands, RowsStand, is_known}
@@ -250,3 +250,9 @@ abbrev pub KeepingRowsMayBePut : Type 0
 KeepingRowsMayBePut =
     (s : State) (number : ℕ) (all : List Change) → IsState s → list_any (nat_eq number) (numbers_of s) ≡ true →
     IsState (with_changes s number all) → IsLawful (with_changes s number all) → may_put s number all ≡ true
+
+-- Of the state no more is looked at than its versions, its steps of tidying, the table's rows and the number of all rows.
+abbrev pub FramesTell : Type 0
+FramesTell =
+    (s frame : State) (number : ℕ) (all : List Change) → frame.schema ≡ s.schema → frame.mode ≡ s.mode → frame.kind ≡ s.kind → frame.left ≡ s.left →
+    may_put_beside frame number (rows_of s number) (row_count s) all ≡ may_put s number all

@@ -1,6 +1,6 @@
 //! Laws of the machine, over its definitions alone. Each is the contract of a function that does nothing.
 ghost use Rattle.machine.specs.Below.{Below};
-ghost use Rattle.machine.specs.Laws.{StepsKeepStates, RunsReachStates, RefusalsChangeNothing, BegunHalvesAreMade, OldShowsOldHalves, PlainStepsAreSteps, LaneStepsAreSteps, LaneRunsAreRuns, StepsKeepLaws, RunsReachLawful, OnlyCommandsAreRefused, BatchesLeaveFewer, UnfilledRowsAreFew, StepsLeaveFewer, StepsAreFew, StepsBackLeaveFewer, StepsBackAreFew, PhasesSaySteps, RollingBackIsDone, OldHalvesStay, FoundStands, WritesStand, ShowsStand, SharedStands, FillingStands, RowsStandBy, RowsOnSites, ChangesKeep, ChangesAgree, TablesHaveTheirRows, TablesAreKnown, BothAreShared, SharedByLenses, FilledRowsHaveHalves, StartsStand, PutRowsKeepStates, KeepingRowsMayBePut};
+ghost use Rattle.machine.specs.Laws.{StepsKeepStates, RunsReachStates, RefusalsChangeNothing, BegunHalvesAreMade, OldShowsOldHalves, PlainStepsAreSteps, LaneStepsAreSteps, LaneRunsAreRuns, StepsKeepLaws, RunsReachLawful, OnlyCommandsAreRefused, BatchesLeaveFewer, UnfilledRowsAreFew, StepsLeaveFewer, StepsAreFew, StepsBackLeaveFewer, StepsBackAreFew, PhasesSaySteps, RollingBackIsDone, OldHalvesStay, FoundStands, WritesStand, ShowsStand, SharedStands, FillingStands, RowsStandBy, RowsOnSites, ChangesKeep, ChangesAgree, TablesHaveTheirRows, TablesAreKnown, BothAreShared, SharedByLenses, FilledRowsHaveHalves, StartsStand, PutRowsKeepStates, KeepingRowsMayBePut, FramesTell};
 
 use mig_lens::laws::{carried_columns_keep_their_values, made_halves_fit};
 use mig_plan::laws::{
@@ -147,10 +147,12 @@ pub fn tables_stand()
 }
 
 /// Rows from outside, as a record brings them, may be put into one table of a lawful state that stands exactly where the
-/// state afterwards is such a state. Which changes these are is told by their rows alone, beside the rows that stay.
+/// state afterwards is such a state. Of the state its versions and its steps of tidying are looked at, the table's rows
+/// and the number of all rows.
 pub fn rows_put_keep_states()
     ensures kept { PutRowsKeepStates }
     ensures all { KeepingRowsMayBePut }
+    ensures frames { FramesTell }
 {
     laws_below();
 }
