@@ -5,12 +5,12 @@ use Rattle.roll_core.proofs.Words.{Lens, Kind, Fate, IsSchema, Joins, Kept, shap
 use Rattle.roll_core.proofs.Words.{HalfStands, IsState, ModeStands, NewStands, NewerStands, PairStands, RowsStand, Shared, is_known, lens_among, lens_between, newer_schema, shared, table_numbered, table_on, New}
 use Rattle.roll_core.proofs.Words.{Old, Side, Pair, Own, Paired, Former, meant, numbers_in, AreKept, form_without, former_by, gone_side, goes, left_by, left_form, left_frame, left_table, lost_by, lost_columns}
 use Rattle.roll_core.proofs.Words.{stays, IsAlone, IsStored, IsStoredRow, IsStoredTable, Stored, StoredRow, StoredTable, form_in, kept, lost_columns_by, newer_of, older_of, over_pair, pair_over, rows_meant}
-use Rattle.roll_core.proofs.Words.{side_alone, table_meant}
+use Rattle.roll_core.proofs.Words.{not, side_alone, table_meant}
 use Rattle.roll_core.proofs.Words.kind
 use Rattle.machine.specs.Standing.{may_miss}
 use Rattle.roll_core.proofs.Outcomes.{left_of, not_is}
 use Rattle.roll_core.proofs.Runs.{active_form, none_there, not_there, shared_in, shared_of, unshared}
-use Rattle.roll_core.proofs.Tables.{all_at, each_all, each_mapped, each_passing, each_place, got_mapped, own_number, rows_of-read}
+use Rattle.roll_core.proofs.Tables.{all_at, ascend, each_all, each_mapped, each_passing, each_place, got_mapped, is_among, numbers_of-meant, on_meant, own_number, passing_among, passing_ascend, rows_of-read}
 
 -- Two versions stand.
 pub record Active (mode : Mode) : Type 0 where
@@ -309,6 +309,7 @@ alone_parted law gone frame a all stands table e form lens among known rows =
             no_lens = lens;
             is = record {
               form = own ∙ ap Own (sym (gone_is gone));
+              known = ap is_some (sym (going_on gone frame all a number) ∙ on_meant frame all gone number) ∙ known_on frame number gone known there;
               gone = sym (staying_on gone frame a number) ∙ none;
               rows = subst (λ (version : Option Table). AllByRecursion (λ row. HalfStands version row.0 (Some row.1)) table.rows) (going_on gone frame all a number) stand;
             };
@@ -400,6 +401,17 @@ joins : (gone : Side) (frame : State) (schema : Schema) (number : ℕ) (lens : L
 joins Old frame schema number lens h = h
 joins New frame schema number lens h = h
 
+-- Each table that the version that goes has alone is among those that go.
+all_gone : (gone : Side) (frame : State) (a : Active frame.mode) (all : List StoredTable) → IsState (meant frame all) → (number : ℕ)
+    → is_some (table_numbered (going_schema gone frame a.schema) number) ≡ true → table_numbered (staying_schema gone frame a.schema) number ≡ None
+    → list_any (nat_eq number) (numbers_in (filter (goes gone frame) all)) ≡ true
+all_gone gone frame a all stands number had none =
+    let s = meant frame all in
+    let lacks = staying_on gone frame a number ∙ none in
+    let among = is_among s stands gone number (ap is_some (going_on gone frame all a number) ∙ had) in
+    passing_among (goes gone frame) number (λ table is. ap (λ number. not (is_some (table_on frame (other gone) number))) is ∙ ap (λ found. not (is_some found)) lacks) all
+    (subst (λ ns. list_any (nat_eq number) ns ≡ true) (numbers_of-meant frame all) among)
+
 stored_left : Below → (gone : Side) (frame : State) (a : Active frame.mode) (all : List StoredTable) → IsState (meant frame all) → frame.tables ≡ [] → Each (Parted gone frame a all) all
     → AreKept (left_stored gone frame a all)
 stored_left law gone frame a all stands once parts = record {
@@ -410,6 +422,8 @@ stored_left law gone frame a all stands once parts = record {
       schema = going_stands gone frame a all stands;
       joined = λ number lens h. joins gone frame a.schema number lens (joined law (meant frame all) a stands number lens h);
       alone = each_passing (goes gone frame) (λ table (p : Parted gone frame a all table) go. (p.going (not_is (stays gone frame table) go)).is) all parts;
+      ascend = passing_ascend (goes gone frame) all (ascend frame all stands);
+      all = λ _. all_gone gone frame a all stands;
       taken = λ k e. absurd (none_taken gone k e);
     },
   );

@@ -4,7 +4,7 @@ use Rattle.roll_core.proofs.Words.{Greater, ap, refl, sym, subst, length, map, t
 use Rattle.roll_core.proofs.Words.{Value, Rows, Form, IsStoredRow, kept, stepped_row, stepped_values, StoredRow, meaning, ◌==◌, Option, Ok, inl, inr, ◌⊎◌, if◌then◌else◌, map-id, map-map, Calm, Both}
 use Rattle.roll_core.proofs.Words.{State, Complete, complete, stepped, table_without_loss, tidied, without_loss, ModeStands, StepsStand, Shared, Pair, IsPair, Own, Left, Trimmed, Former, meant}
 use Rattle.roll_core.proofs.Words.{AreKept, Goes, tidied_form, tidied_number, tidied_parts, tidied_table, HasFormer, IsStored, IsStoredTable, Stored, StoredTable, form_in, former_pair}
-use Rattle.roll_core.proofs.Words.{lost_columns_by, option_map, over_pair, pair_over, rows_meant, table_meant, without_tables, Below, Old}
+use Rattle.roll_core.proofs.Words.{lost_columns_by, option_map, over_pair, pair_over, rows_meant, table_meant, tables_taken, without_tables, Below, Old}
 use Rattle.roll_core.proofs.Words.{Kind, Mode, Paired, Returned, Rollback, both_before, calm_form, side_alone, rollback, shared, tidied_back, tidied_back_frame, tidied_back_parts}
 use Rattle.roll_core.proofs.Words.finite
 use Rattle.roll_core.proofs.Words.kind
@@ -179,6 +179,9 @@ pub record IsTidied (two : Bool) (frame : State) (former : Option Former) (table
       ≡ (if two then record (meant frame tables) { left = 1; tables = map table_without_loss (map table_meant tables); lost_columns = [] } else record (meant frame tables) { left = 0; kind = kind.Nothing })
   pub kept : AreKept (record { frame = if two then record frame { left = 1; lost_columns = [] } else record frame { left = 0; kind = kind.Nothing }; former = if two then option_map without_tables former else None; tables = map tidied_table tables })
 
+none_left : {by : Kind} → by ≡ kind.Complete → tables_taken by 1 ≡ false → ⊥
+none_left k left = let no : true ≡ false = sym (ap (λ by. tables_taken by 1) k) ∙ left in cc
+
 second : Below → (frame : State) (former : Option Former) (tables : List StoredTable) → IsStored (record { frame = frame; former = former; tables = tables })
     → frame.mode ≡ Calm → frame.kind ≡ kind.Complete → frame.left ≡ 2 → IsTidied true frame former tables
 second law frame former tables stored m k l =
@@ -193,7 +196,7 @@ second law frame former tables stored m k l =
       kept = record {
         once = stored.once;
         former = elim former as (λ former. HasFormer frame former → HasFormer new (option_map without_tables former))
-            [ None ↦ λ h. let no : 0 ≡ 2 = sym h ∙ l in absurd (omega (arith, no)) | Some former ↦ λ h. (omega arith, record { schema = h.1.schema; joined = h.1.joined; alone = tt; taken = λ k e. refl }) ] stored.former;
+            [ None ↦ λ h. let no : 0 ≡ 2 = sym h ∙ l in absurd (omega (arith, no)) | Some former ↦ λ h. (omega arith, record { schema = h.1.schema; joined = h.1.joined; alone = tt; ascend = tt; all = λ left. absurd (none_left k left); taken = λ k e. refl }) ] stored.former;
         tables = next_stored without_loss form (record { frame = new; former = option_map without_tables former; tables = map tidied_table tables }) tables
             (λ number. ap (over_pair Trimmed Old) (sym (without_pair former frame number)) ∙ sym (one_form (option_map without_tables former) new number m k refl)) refl each;
       };

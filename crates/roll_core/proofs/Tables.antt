@@ -4,7 +4,7 @@ use Rattle.roll_core.proofs.Words.{◌≡◌, ◌≤◌, ◌<◌, ◌==◌, ◌�
 use Rattle.roll_core.proofs.Words.{option_and_then, le_of_eq, slice_get, slice_index_or, slice_set, sum_by, AllByRecursion, list_all, list_any, option_map_or, nat_tests, length-map, sum_by-cons}
 use Rattle.roll_core.proofs.Words.{Change, both, some_same, Table, table_numbered, Kept, Site, number_of, Calm, Both, State, numbers_of, IsState, ModeStands, NumbersAscend, newer_schema, rows_of}
 use Rattle.roll_core.proofs.Words.{table_on, with_rows, New, Old, Side, OwnTable, IsSite, Runs, meant, numbers_in, stored_count, changed, with_changes, own_count, seen, StoredTable, kept, rows_meant}
-use Rattle.roll_core.proofs.Words.{◌++◌, filter, other, table_meant}
+use Rattle.roll_core.proofs.Words.{◌++◌, None, filter, is_some, other, table_meant}
 use Rattle.roll_core.proofs.Words.finite
 
 -- ---- elements
@@ -73,6 +73,25 @@ pub rest_ascends : (number : ℕ) (numbers : List ℕ) → NumbersAscend (number
 rest_ascends number [] h = tt
 rest_ascends number (next ∷ numbers) h = h.1
 
+later_ascend : (first next : ℕ) (numbers : List ℕ) → first < next → NumbersAscend (next ∷ numbers) → NumbersAscend (first ∷ numbers)
+later_ascend first next [] less a = tt
+later_ascend first next (third ∷ numbers) less a = let more = a.0 in (omega (arith, less, more), a.1)
+
+-- Those of the tables that pass a test ascend too.
+pass_behind : (test : StoredTable → Bool) (first : ℕ) (tables : List StoredTable) → NumbersAscend (first ∷ numbers_in tables) → NumbersAscend (first ∷ numbers_in (filter test tables))
+pass_behind test first [] a = tt
+pass_behind test first (table ∷ tables) a =
+    let rest = filter test tables in
+    elim (test table) as (λ b. NumbersAscend (first ∷ numbers_in (if b then table ∷ rest else rest)))
+    [ true ↦ (a.0, pass_behind test table.number tables a.1) | false ↦ pass_behind test first tables (later_ascend first table.number (numbers_in tables) a.0 a.1) ]
+
+pub passing_ascend : (test : StoredTable → Bool) (tables : List StoredTable) → NumbersAscend (numbers_in tables) → NumbersAscend (numbers_in (filter test tables))
+passing_ascend test [] a = tt
+passing_ascend test (table ∷ tables) a =
+    let rest = filter test tables in
+    elim (test table) as (λ b. NumbersAscend (numbers_in (if b then table ∷ rest else rest)))
+    [ true ↦ pass_behind test table.number tables a | false ↦ passing_ascend test tables (rest_ascends table.number (numbers_in tables) a) ]
+
 -- the tables behind have greater numbers
 behind : (first : ℕ) (tables : List StoredTable) (at : ℕ) (table : StoredTable) → NumbersAscend (first ∷ numbers_in tables) → slice_get tables at ≡ Some table → first < table.number
 behind first [] at table a e = cc
@@ -102,7 +121,12 @@ side_among s stands New number table e =
     elim s.mode as (λ mode. ModeStands s mode → option_and_then (λ schema. table_numbered schema number) (newer_schema mode) ≡ Some table → list_any (nat_eq number) (numbers_of s) ≡ true)
     [ Calm ↦ λ h e. cc | Both name schema fates ↦ λ h e. among (numbers_of s) number schema.tables table h.version.rows e ] stands.mode e
 
-on_meant : (frame : State) (tables : List StoredTable) (side : Side) (number : ℕ) → table_on (meant frame tables) side number ≡ table_on frame side number
+pub is_among : (s : State) → IsState s → (side : Side) (number : ℕ) → is_some (table_on s side number) ≡ true → list_any (nat_eq number) (numbers_of s) ≡ true
+is_among s stands side number has =
+    elim (table_on s side number) as (λ found. table_on s side number ≡ found → is_some found ≡ true → list_any (nat_eq number) (numbers_of s) ≡ true)
+    [ None ↦ λ e has. cc | Some table ↦ λ e has. side_among s stands side number table e ] refl has
+
+pub on_meant : (frame : State) (tables : List StoredTable) (side : Side) (number : ℕ) → table_on (meant frame tables) side number ≡ table_on frame side number
 on_meant frame tables Old number = refl
 on_meant frame tables New number = refl
 
@@ -122,6 +146,19 @@ own_number (first ∷ tables) (suc at) table e = later (nat_eq table.number firs
     later : (b : Bool) → list_any (nat_eq table.number) (numbers_in tables) ≡ true → (b || list_any (nat_eq table.number) (numbers_in tables)) ≡ true
     later true h = refl
     later false h = h
+
+-- A number is among those of the tables that pass a test, where its table does.
+pub passing_among : (test : StoredTable → Bool) (number : ℕ) → ((table : StoredTable) → table.number ≡ number → test table ≡ true) → (tables : List StoredTable)
+    → list_any (nat_eq number) (numbers_in tables) ≡ true → list_any (nat_eq number) (numbers_in (filter test tables)) ≡ true
+passing_among test number passes [] among = among
+passing_among test number passes (table ∷ tables) among =
+    let rest = filter test tables in
+    let more = passing_among test number passes tables in
+    let whole = λ (b : Bool). list_any (nat_eq number) (numbers_in (if b then table ∷ rest else rest)) in
+    elim (nat_eq number table.number) as (λ b. nat_eq number table.number ≡ b → (b || list_any (nat_eq number) (numbers_in tables)) ≡ true → whole (test table) ≡ true) [
+      | true ↦ λ e h. let same : table.number ≡ number = grind (arith, nat_tests) in ap whole (passes table same) ∙ ap (λ b. b || list_any (nat_eq number) (numbers_in rest)) e
+      | false ↦ λ e h. elim (test table) as (λ b. whole b ≡ true) [ true ↦ ap (λ b. b || list_any (nat_eq number) (numbers_in rest)) e ∙ more h | false ↦ more h ]
+    ] refl among
 
 pub none_lost : (frame : State) (number : ℕ) → frame.lost_columns ≡ [] → lost_columns_of frame number ≡ 0
 none_lost frame number e = ap (λ (lost : List (ℕ × ℕ)). option_map_or (λ lost. lost.1) (find (λ lost. lost.0 == number) lost) 0) e

@@ -72,7 +72,7 @@ pub use Rattle.roll_core.specs.Engine.{command_outcome, event_of, first_stored}
 pub use Rattle.roll_core.specs.Running.{Comes, FormSuits, IsSite, IsStatement, LeftBy, ReturnedBy, RowsStored, Runs, SameForms, accepted, job_reach, meant, numbers_in, refused_all, reply_of, stored_count, too_many, too_many_error}
 pub use Rattle.roll_core.specs.Seen.{former_seen, parts, row_count as own_count, seen}
 pub use Rattle.roll_core.specs.Stepping.{MayLeave, NoneMissing, stays_new, AreKept, AreRun, Goes, begun_parts, begun_form, begun_frame, begun_table, created_table, form_without, former_by, former_of, goes, shared_by, stays, without_tables, invalid_in, left_by, left_form, left_frame, left_parts, left_table, lost_by, lost_columns, may_not_complete, not_filled_in, startable, stepped_row, stepped_values, tidied_back_frame, tidied_back_parts, tidied_form, tidied_number, tidied_parts, tidied_table}
-pub use Rattle.roll_core.specs.Store.{halves_of, Former, FormerStands, HasFormer, IsAlone, IsStored, IsStoredRow, IsStoredTable, Stored, StoredRow, StoredTable, both_again, both_before, calm_form, form_in, former_pair, gone_side, kept, lost_columns_by, lost_of, meaning, over_pair, pair_over, newer_schema as newer_of, older_schema as older_of, rows_meant, side_alone, stored_values, table_meant}
+pub use Rattle.roll_core.specs.Store.{halves_of, Former, FormerStands, HasFormer, IsAlone, IsStored, IsStoredRow, IsStoredTable, Stored, StoredRow, StoredTable, both_again, both_before, calm_form, form_in, former_pair, gone_side, kept, lost_columns_by, lost_of, meaning, over_pair, pair_over, newer_schema as newer_of, older_schema as older_of, rows_meant, side_alone, stored_values, table_meant, tables_taken}
 pub use Rattle.roll_core.specs.declared.changing.StoredChange.{StoredChange}
 pub use Rattle.roll_core.specs.declared.commands.Cmd.{Cmd}
 pub use Rattle.roll_core.specs.declared.commands.Cmd.TheVariants.{Start}

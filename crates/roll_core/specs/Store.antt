@@ -1,8 +1,8 @@
 -- What the engine stores, and what that means as a state of the machine.
 --
 -- The engine keeps a frame, which is a state without its rows; from the first step of completing or of rolling back until the last one what the version that is gone had; and per table its stored rows by ascending key, in the form in which they are stored. Where one version alone has a table, and no step is left, a stored row is that version's row. From START on a table that both versions have keeps its rows by the pair's layout: the old columns, the shadow places, the mark. The first step of completing takes the old version away and leaves the rows; the second takes the old columns that are lost, and the mark; the third orders the places. The first step of rolling back takes the new version away and leaves the rows, and the second takes the shadow places and the mark. The rows of a table that the version which goes had alone stay with what is kept of it until the second step, and no version shows them. So a row is stored once, whatever number of versions stand, and each version's view selects its half.
-use Rattle.std.specs.Prelude.{◌≡◌, ◌≤◌, ℕ, ℤ, List, [], ◌==◌, false, Option, Some, None, is_some, map, unwrap_or, if◌then◌else◌}
-use Rattle.std.specs.List.{AllByRecursion}
+use Rattle.std.specs.Prelude.{◌≡◌, ◌≤◌, ℕ, ℤ, Bool, List, [], ◌==◌, false, true, Option, Some, None, is_some, map, nat_eq, unwrap_or, if◌then◌else◌}
+use Rattle.std.specs.List.{AllByRecursion, list_any}
 use Rattle.std.specs.Option.{option_and_then, option_map_or}
 use Rattle.sql_base.specs.declared.shapes.Schema.{Schema}
 use Rattle.sql_base.specs.declared.values.Value.{Value}
@@ -21,7 +21,7 @@ use Rattle.machine.specs.declared.states.Mode.TheVariants.{Calm, Both}
 use Rattle.machine.specs.declared.states.State.{State}
 use Rattle.machine.specs.Lawful.{IsLawful}
 use Rattle.machine.specs.Migrate.{lost_columns_in, lost_weight}
-use Rattle.machine.specs.Standing.{HalfStands, IsState}
+use Rattle.machine.specs.Standing.{HalfStands, IsState, NumbersAscend}
 use Rattle.machine.specs.State.{Shared, lens_among, lost_columns_of, shared, table_on}
 use Rattle.trigger_pair.specs.declared.pairs.Pair.{Pair}
 use Rattle.trigger_pair.specs.Rows.{IsPairedRow}
@@ -194,14 +194,27 @@ newer_schema kind.Rollback gone standing = gone
 -- A table that the version that is gone had alone: its rows are that version's, each with the row's key.
 pub record IsAlone (frame : State) (former : Former) (table : StoredTable) : Type 0 where
   pub form : table.form ≡ Own (gone_side frame.kind)
+  pub known : is_some (table_numbered former.schema table.number) ≡ true
   pub gone : table_numbered frame.schema table.number ≡ None
   pub rows : AllByRecursion (λ row. HalfStands (table_numbered former.schema table.number) row.0 (Some row.1)) table.rows
 
--- The version that is gone stood beside the one that stands: the migration's own lenses join the two. After the second step of completing it has no table left.
+-- The numbers of the tables that are kept of it.
+abbrev pub kept_numbers : Former → List ℕ
+kept_numbers former = map (λ table. table.number) former.tables
+
+-- Whether the second step of completing has taken them.
+abbrev pub tables_taken : Kind → ℕ → Bool
+tables_taken kind.Nothing left = false
+tables_taken kind.Complete left = left == 1
+tables_taken kind.Rollback left = false
+
+-- The version that is gone stood beside the one that stands: the migration's own lenses join the two. Until the second step each table that it had alone is kept, in order of creation. After the second step of completing it has no table left.
 pub record FormerStands (frame : State) (former : Former) : Type 0 where
   pub schema : IsSchema former.schema
   pub joined : (number : ℕ) (lens : Lens) → lens_among former.fates number ≡ Some lens → Joins lens number (older_schema frame.kind former.schema frame.schema) (newer_schema frame.kind former.schema frame.schema)
   pub alone : AllByRecursion (IsAlone frame former) former.tables
+  pub ascend : NumbersAscend (kept_numbers former)
+  pub all : tables_taken frame.kind frame.left ≡ false → (number : ℕ) → is_some (table_numbered former.schema number) ≡ true → table_numbered frame.schema number ≡ None → list_any (nat_eq number) (kept_numbers former) ≡ true
   pub taken : frame.kind ≡ kind.Complete → frame.left ≡ 1 → former.tables ≡ []
 
 -- Something is kept of it exactly while steps of tidying are left.
