@@ -1,6 +1,6 @@
 -- When rows that come from outside may be put into a state.
 --
--- A record brings changes of the rows of one table. They may be made where the state afterwards is one that stands and is lawful: no more is looked at, and no less. It is looked at alone in what the changes leave, never in the rows that stay. All of it is our own.
+-- A record brings changes of the rows of one table. They may be made where the state afterwards is one that stands and is lawful: no more is asked, and no less. Rows that the changes leave are looked at, and of the rows that stay only whether they have the same values. All of it is our own.
 use Rattle.std.specs.Prelude.{ℕ, ◌+◌, ◌==◌, ℤ, List, [], ◌∷◌, Bool, true, false, not, ◌&&◌, ◌||◌, Option, Some, None, is_none, length, nat_lt, if◌then◌else◌}
 use Rattle.std.specs.List.{filter, list_all, list_any}
 use Rattle.std.specs.Option.{option_or}

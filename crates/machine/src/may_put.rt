@@ -359,11 +359,12 @@ fn stand_apart<T: TableRows>(
     }
 }
 
-/// Whether these changes may be made in the table of a number of a state, as a record from outside brings them: exactly
-/// where the state afterwards stands and is lawful (`laws::rows_put_keep_states`). `frame` is the state, of which its
-/// versions and its steps of tidying are looked at alone; `older` are the table's rows, and `count` is the number of rows
-/// in all tables. No order of the changes is asked for: of each key the last one counts. Older rows are copied only where
-/// they don't ascend by key and a version has a unique constraint. An error is want of memory. The rule is our own.
+/// Whether these changes may be made in the table of a number of a state, as a record from outside brings them:
+/// exactly where the state afterwards stands and is lawful (`laws::rows_put_keep_states`). `frame` is the state, of
+/// which its versions and its steps of tidying are looked at alone; `older` are the table's rows, and `count` is the
+/// number of rows in all tables. No order of the changes is asked for: of each key the last one counts. Older rows are
+/// copied only where they don't ascend by key and a version has a unique constraint. An error is want of memory. The
+/// rule is our own.
 pub fn may_put<T: TableRows>(
     alloc: Global,
     frame: &State,
